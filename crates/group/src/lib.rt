@@ -1,0 +1,128 @@
+// Group arithmetic: elements as twelve component bytes, a of them modulo 2, the next b modulo 4, the
+// others unused and 0. Every function answers for every input: a component out of range counts by
+// its remainder. What each one means is in specs/, its laws in proofs/Laws.antt, Numbers.antt and
+// Signs.antt. Callers rely on those laws and not on how the sums are made.
+ghost use mathlib.Core.Path.{_≡_};
+ghost use Prim.Native.Nat.{ℕ, _≤_, _<_};
+ghost use lib.ListN.{getD};
+ghost use Rattle.group.specs.Group.{one, radix, moduli, zeros, sum, negative, times, number, element};
+ghost use Rattle.group.specs.Sign.{same, allZero, isUnit, lead};
+
+// "An element is held as its list of components."
+pub type Element = [u8; 12];
+
+// The zero element.
+pub fn zero(a: usize, b: usize) -> Element
+    ensures { λ r. ⌜ r ≡ zeros (moduli a b) ⌝ }
+{
+    [0u8; 12]
+}
+
+// The sum of two elements.
+pub fn add(a: usize, b: usize, x: Element, y: Element) -> Element
+    ensures { λ r. ⌜ r ≡ sum (moduli a b) x y ⌝ }
+{
+    let mut r = [0u8; 12];
+    let mut i: usize = 0;
+    while i < 12 {
+        r[i] = (x[i] % 4 + y[i] % 4) % modulus(a, b, i);
+        i += 1;
+    }
+    r
+}
+
+// The negative of an element.
+pub fn neg(a: usize, b: usize, x: Element) -> Element
+    ensures { λ r. ⌜ r ≡ negative (moduli a b) x ⌝ }
+{
+    let mut r = [0u8; 12];
+    let mut i: usize = 0;
+    while i < 12 {
+        r[i] = (4 - x[i] % 4) % modulus(a, b, i);
+        i += 1;
+    }
+    r
+}
+
+// A digit times an element.
+pub fn multiple(a: usize, b: usize, d: u8, x: Element) -> Element
+    ensures { λ r. ⌜ r ≡ times (moduli a b) d x ⌝ }
+{
+    let mut r = [0u8; 12];
+    let mut i: usize = 0;
+    while i < 12 {
+        r[i] = ((d % 4) * (x[i] % 4)) % modulus(a, b, i);
+        i += 1;
+    }
+    r
+}
+
+// Whether every component is 0.
+pub fn is_zero(x: Element) -> bool
+    ensures { λ r. ⌜ r ≡ allZero x ⌝ }
+{
+    let mut i: usize = 0;
+    while i < 12 {
+        if x[i] != 0 {
+            return false;
+        }
+        i += 1;
+    }
+    true
+}
+
+// The number of an element.
+pub fn number_of(a: usize, b: usize, x: Element) -> u32
+    ensures { λ r. ⌜ r ≡ number (moduli a b) x ⌝ }
+{
+    let mut n: u32 = 0;
+    let mut i: usize = 12;
+    while 0 < i {
+        i -= 1;
+        let m = modulus(a, b, i);
+        n = n * wide(m) + wide(x[i] % m);
+    }
+    n
+}
+
+// The element that has a number.
+pub fn of_number(a: usize, b: usize, n: u32) -> Element
+    ensures { λ r. ⌜ r ≡ element (moduli a b) n ⌝ }
+{
+    let mut r = [0u8; 12];
+    let mut left = n;
+    let mut i: usize = 0;
+    while i < 12 {
+        if i < a {
+            r[i] = (left % 2) as u8;
+            left = left / 2;
+        } else if i - a < b {
+            r[i] = (left % 4) as u8;
+            left = left / 4;
+        } else {
+            r[i] = 0;
+        }
+        i += 1;
+    }
+    r
+}
+
+// The modulus of component i: 2, 4, or 1 where the component is not in use.
+fn modulus(a: usize, b: usize, i: usize) -> u8
+    requires { ⌜ i < 12 ⌝ }
+    ensures { λ r. ⌜ r ≡ radix (getD (moduli a b) i one) ⌝ }
+{
+    if i < a {
+        2
+    } else if i - a < b {
+        4
+    } else {
+        1
+    }
+}
+
+fn wide(x: u8) -> u32
+    ensures { λ r. ⌜ r ≡ x ⌝ }
+{
+    x as u32
+}
