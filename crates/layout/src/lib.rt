@@ -1,0 +1,4 @@
+// The layout of places.
+pub fn nothing() -> u32 {
+    0
+}
