@@ -1,4 +1,5 @@
--- Lists: counting and filters. Cover: every element stands once. Sizes: how many places, singles and pairs. Places: the theorems on the
--- layout. Parameters: the same for the admitted t and r.
+-- Lists: counting and filters. Cover: every element stands once. Tally and Below: how many elements of a sign have a smaller number.
 pub mod Lists
 pub mod Cover
+pub mod Tally
+pub mod Below

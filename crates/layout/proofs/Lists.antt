@@ -8,11 +8,7 @@ use lib.ListN.{length, getD}
 use Rattle.group.specs.Sign.{same}
 use Rattle.group.proofs.Signs.{same-eq}
 use Rattle.layout.specs.Layout.{from, keep}
-
--- 1 where a test passes
-abbrev pub hit : Bool → ℕ
-hit true = 1
-hit false = 0
+use Rattle.layout.specs.Rank.{hit, gate}
 
 -- how many members pass
 unfoldable pub count : (List ℕ → Bool) → List (List ℕ) → ℕ
@@ -84,11 +80,6 @@ keep-append q (x ∷ xs) ys = go (keep-append q xs ys) (q x) refl
     go : keep q (xs ++ ys) ≡ keep q xs ++ keep q ys → (b : Bool) → q x ≡ b → keep q (x ∷ (xs ++ ys)) ≡ keep q (x ∷ xs) ++ keep q ys
     go i true e = rw (keep-yes q x (xs ++ ys) e, keep-yes q x xs e, i)
     go i false e = rw (keep-no q x (xs ++ ys) e, keep-no q x xs e, i)
-
--- n, where a test passes
-abbrev pub gate : Bool → ℕ → ℕ
-gate true n = n
-gate false n = 0
 
 -- how often s is among the members that pass
 pub count-keep : (q : List ℕ → Bool) (s : List ℕ) (xs : List (List ℕ)) → count (same s) (keep q xs) ≡ gate (q s) (count (same s) xs)

@@ -1,0 +1,281 @@
+-- How many elements of a sign, and how many units of it, have a smaller number; what the code's reading of the components counts is that.
+-- Assumes nothing.
+use mathlib.Core.Path.{_≡_, refl, sym, ap, ap₂, _∙_}
+use mathlib.Core.List.{List, [], _∷_}
+use mathlib.Core.Bool.{Bool, true, false, _&&_, not}
+use Prim.Native.Nat.{ℕ, zero, suc, _+_, _-_, _*_, _/_, _%_, _<_, _≤_}
+use native.Mathlib.Nat.{le-of-lt}
+use native.Mathlib.Omega.{arith}
+use lib.Dec.{eqb, leb, ltb}
+use borrow.Author.Tests.{eq-eqb, ne-eqb, lt-ltb, le-ltb}
+use Rattle.group.specs.Group.{Modulus, one, two, four, radix, hd, tl, Valid, zeros, number, element, size}
+use Rattle.group.specs.Sign.{allZero, unitOr, isUnit, oddOr, lead}
+use Rattle.group.proofs.Laws.{valid-element}
+use Rattle.group.proofs.Numbers.{element-number, number-element, number-lt, element-zero, number-zeros}
+use Rattle.group.proofs.Signs.{lead-zeros, allZero-zeros, zeros-allZero, agree, true-T}
+use Rattle.layout.specs.Rank.{gate, hit, signOf, start, stepTwo, stepFour, stepOf, rankOf}
+use Rattle.layout.specs.declared.Rank.{Rank}
+use Rattle.layout.proofs.Tally.{tally, tally-ext, tally-add, tally-gate, tally-ones, below, below-one, below-two, below-four, rest}
+use Rattle.layout.proofs.Cover.{ofSign}
+
+-- of the elements with a number below x: those with the sign of the part, and those of them that are units
+abbrev pub led : Bool → List Modulus → ℕ → ℕ
+led p ms x = below (λ e. hit (eqb (lead ms e) (signOf p))) ms x
+
+abbrev pub unitsLed : Bool → List Modulus → ℕ → ℕ
+unitsLed p ms x = below (λ e. gate (isUnit e) (hit (eqb (lead ms e) (signOf p)))) ms x
+
+-- those that stand in the part
+abbrev pub members : Bool → List Modulus → ℕ → ℕ
+members p ms x = below (λ e. hit (ofSign (signOf p) ms e)) ms x
+
+split : (a u : Bool) → hit (a && not u) + gate u (hit a) ≡ hit a
+split true true = refl
+split true false = refl
+split false true = refl
+split false false = refl
+
+pub members-units : (p : Bool) (ms : List Modulus) (x : ℕ) → members p ms x + unitsLed p ms x ≡ led p ms x
+members-units p ms x =
+    sym
+    (tally-add (λ y. hit (ofSign (signOf p) ms (element ms y))) (λ y. gate (isUnit (element ms y)) (hit (eqb (lead ms (element ms y)) (signOf p)))) x)
+    ∙ tally-ext
+    (λ y. hit (ofSign (signOf p) ms (element ms y)) + gate (isUnit (element ms y)) (hit (eqb (lead ms (element ms y)) (signOf p))))
+    (λ y. hit (eqb (lead ms (element ms y)) (signOf p))) x
+    (λ y l. split (eqb (lead ms (element ms y)) (signOf p)) (isUnit (element ms y)))
+
+-- ---- zero is the element of number 0 alone
+zero-number : (ms : List Modulus) (y : ℕ) → y < size ms → allZero (element ms y) ≡ eqb y 0
+zero-number ms zero l = ap allZero (element-zero ms) ∙ zeros-allZero ms ∙ sym (eq-eqb 0 0 refl)
+zero-number ms (suc y) l =
+    agree (allZero (element ms (suc y))) (eqb (suc y) 0)
+    (λ t.
+      let z : element ms (suc y) ≡ zeros ms = allZero-zeros ms (element ms (suc y)) (valid-element ms (suc y)) t in
+      let n : suc y ≡ 0 = sym (number-element ms (suc y) l) ∙ ap (number ms) z ∙ number-zeros ms in
+      absurd (omega arith))
+    (λ t. let n : suc y ≡ 0 = lib.Dec.eqb→eq (suc y) 0 (true-T (eqb (suc y) 0) t) in absurd (omega arith))
+
+first-only : (v : ℕ) → tally (λ y. hit (eqb y 0)) v ≡ hit (ltb 0 v)
+unfolding tally
+first-only zero = sym (ap hit (le-ltb 0 0 (omega arith)))
+first-only (suc zero) = refl
+first-only (suc (suc v)) =
+    let i = first-only (suc v) in
+    let a = lt-ltb 0 (suc v) (omega arith) in
+    rw (ne-eqb (suc v) 0 (omega arith), lt-ltb 0 (suc (suc v)) (omega arith)) (omega (arith, i ∙ ap hit a))
+
+zero-below : (ms : List Modulus) (v : ℕ) → v ≤ size ms → below (λ e. hit (allZero e)) ms v ≡ hit (ltb 0 v)
+zero-below ms v l =
+    tally-ext (λ y. hit (allZero (element ms y))) (λ y. hit (eqb y 0)) v (λ y k. ap hit (zero-number ms y (omega arith))) ∙ first-only v
+
+-- zero has the sign 0
+zero-sign : (p : Bool) (ms : List Modulus) (e : List ℕ) → Valid ms e
+    → gate (allZero e) (hit (eqb (lead ms e) (signOf p))) ≡ gate (eqb (signOf p) 0) (hit (allZero e))
+zero-sign p ms e h = go p (allZero e) refl
+  where
+    sign : allZero e ≡ true → lead ms e ≡ 0
+    sign t = ap (lead ms) (allZero-zeros ms e h t) ∙ lead-zeros ms
+
+    go : (p : Bool) (b : Bool) → allZero e ≡ b → gate b (hit (eqb (lead ms e) (signOf p))) ≡ gate (eqb (signOf p) 0) (hit b)
+    go true true t = rw (sign t)
+    go true false t = refl
+    go false true t = rw (sign t)
+    go false false t = refl
+
+-- ---- one component more
+module _ (p : Bool) (ms : List Modulus) where
+  abbrev has : List ℕ → ℕ
+  has e = hit (eqb (lead ms e) (signOf p))
+
+  abbrev hasUnit : List ℕ → ℕ
+  hasUnit e = gate (isUnit e) (has e)
+
+  pub led-one : (x : ℕ) → led p (one ∷ ms) x ≡ led p ms x
+  unfolding lead
+  led-one x = below-one (λ e. hit (eqb (lead (one ∷ ms) e) (signOf p))) ms x
+
+  pub led-two : (d v : ℕ) → d < 2 → led p (two ∷ ms) (d + 2 * v) ≡ 2 * led p ms v + gate (eqb d 1) (has (element ms v))
+  unfolding lead
+  led-two d v l = below-two (λ e. hit (eqb (lead (two ∷ ms) e) (signOf p))) ms d v l ∙ go d l
+    where
+      twice : below (λ e. has e + has e) ms v ≡ 2 * led p ms v
+      twice = tally-add (λ y. has (element ms y)) (λ y. has (element ms y)) v ∙ omega arith
+
+      go : (d : ℕ) → d < 2
+          → below (λ e. has e + has e) ms v + rest (λ e. hit (eqb (lead (two ∷ ms) e) (signOf p))) ms d v ≡ 2 * led p ms v + gate (eqb d 1) (has (element ms v))
+      go zero l = omega (arith, twice)
+      go (suc zero) l = omega (arith, twice)
+      go (suc (suc d)) l = absurd (omega arith)
+
+  pub led-four : (d v : ℕ) → d < 4
+      → led p (four ∷ ms) (d + 4 * v)
+      ≡ 2 * led p ms v + (gate p v + (gate (leb 1 d) (has (element ms v)) + (gate (leb 2 d) (gate p 1) + gate (leb 3 d) (has (element ms v)))))
+  unfolding lead
+  led-four d v l = below-four (λ e. hit (eqb (lead (four ∷ ms) e) (signOf p))) ms d v l ∙ go d l
+    where
+      each : List ℕ → ℕ
+      each e = (has e + hit (eqb 1 (signOf p))) + (has e + hit (eqb 3 (signOf p)))
+
+      plain : (q : Bool) → (hit (eqb 1 (signOf q)) ≡ gate q 1) × (hit (eqb 3 (signOf q)) ≡ 0)
+      plain true = (refl, refl)
+      plain false = (refl, refl)
+
+      blocks : below each ms v ≡ 2 * led p ms v + gate p v
+      blocks =
+          let f : ℕ → ℕ = λ y. has (element ms y) in
+          let a = tally-ext (λ y. each (element ms y)) (λ y. f y + (f y + gate p 1)) v (λ y k. omega (arith, plain p .0, plain p .1)) in
+          let b = tally-add f (λ y. f y + gate p 1) v in
+          let c = tally-add f (λ y. gate p 1) v in
+          let d = tally-gate p (λ y. 1) v ∙ ap (gate p) (tally-ones v) in
+          omega arith
+
+      go : (d : ℕ) → d < 4
+          → below each ms v + rest (λ e. hit (eqb (lead (four ∷ ms) e) (signOf p))) ms d v
+          ≡ 2 * led p ms v + (gate p v + (gate (leb 1 d) (has (element ms v)) + (gate (leb 2 d) (gate p 1) + gate (leb 3 d) (has (element ms v)))))
+      go zero l = omega (arith, blocks)
+      go (suc zero) l = omega (arith, blocks)
+      go (suc (suc zero)) l = omega (arith, blocks, plain p .0)
+      go (suc (suc (suc zero))) l = omega (arith, blocks, plain p .0)
+      go (suc (suc (suc (suc d)))) l = absurd (omega arith)
+
+  pub units-one : (x : ℕ) → unitsLed p (one ∷ ms) x ≡ unitsLed p ms x
+  unfolding lead isUnit
+  units-one x = below-one (λ e. gate (isUnit e) (hit (eqb (lead (one ∷ ms) e) (signOf p)))) ms x
+
+  pub units-two : (d v : ℕ) → d < 2 → v ≤ size ms
+      → unitsLed p (two ∷ ms) (d + 2 * v)
+      ≡ unitsLed p ms v + (gate (eqb (signOf p) 0) (hit (ltb 0 v)) + gate (eqb d 1) (hasUnit (element ms v)))
+  unfolding lead isUnit
+  units-two d v l k = below-two (λ e. gate (isUnit e) (hit (eqb (lead (two ∷ ms) e) (signOf p)))) ms d v l ∙ go d l
+    where
+      each : List ℕ → ℕ
+      each e = hasUnit e + gate (allZero e) (has e)
+
+      blocks : below each ms v ≡ unitsLed p ms v + gate (eqb (signOf p) 0) (hit (ltb 0 v))
+      blocks =
+          tally-add (λ y. hasUnit (element ms y)) (λ y. gate (allZero (element ms y)) (has (element ms y))) v
+          ∙ ap (λ (n : ℕ). unitsLed p ms v + n)
+          (tally-ext (λ y. gate (allZero (element ms y)) (has (element ms y))) (λ y. gate (eqb (signOf p) 0) (hit (allZero (element ms y)))) v
+          (λ y j. zero-sign p ms (element ms y) (valid-element ms y))
+          ∙ tally-gate (eqb (signOf p) 0) (λ y. hit (allZero (element ms y))) v
+          ∙ ap (gate (eqb (signOf p) 0)) (zero-below ms v k))
+
+      go : (d : ℕ) → d < 2
+          → below each ms v + rest (λ e. gate (isUnit e) (hit (eqb (lead (two ∷ ms) e) (signOf p)))) ms d v
+          ≡ unitsLed p ms v + (gate (eqb (signOf p) 0) (hit (ltb 0 v)) + gate (eqb d 1) (hasUnit (element ms v)))
+      go zero l = omega (arith, blocks)
+      go (suc zero) l = omega (arith, blocks)
+      go (suc (suc d)) l = absurd (omega arith)
+
+  pub units-four : (d v : ℕ) → d < 4 → v ≤ size ms
+      → unitsLed p (four ∷ ms) (d + 4 * v)
+      ≡ unitsLed p ms v
+      + (gate p (hit (ltb 0 v)) + (gate (leb 1 d) (hasUnit (element ms v)) + gate (leb 2 d) (gate p (hit (allZero (element ms v))))))
+  unfolding lead isUnit
+  units-four d v l k = below-four (λ e. gate (isUnit e) (hit (eqb (lead (four ∷ ms) e) (signOf p)))) ms d v l ∙ go d l
+    where
+      each : List ℕ → ℕ
+      each e = (hasUnit e + gate (allZero e) (hit (eqb 1 (signOf p)))) + (0 + 0)
+
+      plain : (q : Bool) (e : List ℕ) → gate (allZero e) (hit (eqb 1 (signOf q))) ≡ gate q (hit (allZero e))
+      plain q e = at q (allZero e)
+        where
+          at : (q b : Bool) → gate b (hit (eqb 1 (signOf q))) ≡ gate q (hit b)
+          at true true = refl
+          at true false = refl
+          at false true = refl
+          at false false = refl
+
+      blocks : below each ms v ≡ unitsLed p ms v + gate p (hit (ltb 0 v))
+      blocks =
+          tally-ext (λ y. each (element ms y)) (λ y. hasUnit (element ms y) + gate p (hit (allZero (element ms y)))) v
+          (λ y j. omega (arith, plain p (element ms y)))
+          ∙ tally-add (λ y. hasUnit (element ms y)) (λ y. gate p (hit (allZero (element ms y)))) v
+          ∙ ap (λ (n : ℕ). unitsLed p ms v + n)
+          (tally-gate p (λ y. hit (allZero (element ms y))) v ∙ ap (gate p) (zero-below ms v k))
+
+      go : (d : ℕ) → d < 4
+          → below each ms v + rest (λ e. gate (isUnit e) (hit (eqb (lead (four ∷ ms) e) (signOf p)))) ms d v
+          ≡ unitsLed p ms v
+          + (gate p (hit (ltb 0 v)) + (gate (leb 1 d) (hasUnit (element ms v)) + gate (leb 2 d) (gate p (hit (allZero (element ms v))))))
+      go zero l = omega (arith, blocks)
+      go (suc zero) l = omega (arith, blocks)
+      go (suc (suc zero)) l = omega (arith, blocks, plain p (element ms v))
+      go (suc (suc (suc zero))) l = omega (arith, blocks, plain p (element ms v))
+      go (suc (suc (suc (suc d)))) l = absurd (omega arith)
+
+-- ---- what reading the components comes to
+abbrev mk : ℕ → ℕ → ℕ → ℕ → Bool → Rank
+mk n l u s f = record { number = n; led = l; units = u; lead = s; unit = f }
+
+mk-eq : {n n′ l l′ u u′ s s′ : ℕ} {f f′ : Bool} → n ≡ n′ → l ≡ l′ → u ≡ u′ → s ≡ s′ → f ≡ f′ → mk n l u s f ≡ mk n′ l′ u′ s′ f′
+mk-eq a b c d e = λ i. mk (a i) (b i) (c i) (d i) (e i)
+
+abbrev pub rankRight : Bool → List Modulus → List ℕ → Rank
+rankRight p ms e = mk (number ms e) (led p ms (number ms e)) (unitsLed p ms (number ms e)) (lead ms e) (isUnit e)
+
+-- the part of the argument that the moduli share: N is the number of the components read before
+module _ (p : Bool) (ms : List Modulus) (e : List ℕ) (h : Valid ms e) where
+  at-number : element ms (number ms e) ≡ e
+  at-number = element-number ms e h
+
+  has-number : hit (eqb (lead ms (element ms (number ms e))) (signOf p)) ≡ hit (eqb (lead ms e) (signOf p))
+  has-number = ap (λ (r : List ℕ). hit (eqb (lead ms r) (signOf p))) at-number
+
+  unit-number : gate (isUnit (element ms (number ms e))) (hit (eqb (lead ms (element ms (number ms e))) (signOf p)))
+      ≡ gate (isUnit e) (hit (eqb (lead ms e) (signOf p)))
+  unit-number = ap (λ (r : List ℕ). gate (isUnit r) (hit (eqb (lead ms r) (signOf p)))) at-number
+
+  zero-at : eqb (number ms e) 0 ≡ allZero e
+  zero-at = sym (zero-number ms (number ms e) (number-lt ms e)) ∙ ap allZero at-number
+
+  step-two : (x : ℕ) → x < 2 → stepTwo p (rankRight p ms e) x ≡ rankRight p (two ∷ ms) (x ∷ e)
+  unfolding stepTwo lead isUnit
+  step-two x l =
+      let N = number ms e in
+      let n : number (two ∷ ms) (x ∷ e) ≡ x + 2 * N = unfold number in omega arith in
+      mk-eq
+      (sym (n ∙ omega arith))
+      (sym (ap (led p (two ∷ ms)) n ∙ led-two p ms x N l ∙ ap (λ (k : ℕ). 2 * led p ms N + gate (eqb x 1) k) has-number))
+      (sym
+      (ap (unitsLed p (two ∷ ms)) n
+      ∙ units-two p ms x N l (le-of-lt (number-lt ms e))
+      ∙ ap (λ (k : ℕ). unitsLed p ms N + (gate (eqb (signOf p) 0) (hit (ltb 0 N)) + gate (eqb x 1) k)) unit-number))
+      refl
+      (ap (unitOr x (isUnit e)) zero-at)
+
+  step-four : (x : ℕ) → x < 4 → stepFour p (rankRight p ms e) x ≡ rankRight p (four ∷ ms) (x ∷ e)
+  unfolding stepFour lead isUnit
+  step-four x l =
+      let N = number ms e in
+      let n : number (four ∷ ms) (x ∷ e) ≡ x + 4 * N = unfold number in omega arith in
+      mk-eq
+      (sym (n ∙ omega arith))
+      (sym
+      (ap (led p (four ∷ ms)) n
+      ∙ led-four p ms x N l
+      ∙ ap (λ (k : ℕ). 2 * led p ms N + (gate p N + (gate (leb 1 x) k + (gate (leb 2 x) (gate p 1) + gate (leb 3 x) k)))) has-number))
+      (sym
+      (ap (unitsLed p (four ∷ ms)) n
+      ∙ units-four p ms x N l (le-of-lt (number-lt ms e))
+      ∙ ap₂ (λ (k : ℕ) (b : Bool). unitsLed p ms N + (gate p (hit (ltb 0 N)) + (gate (leb 1 x) k + gate (leb 2 x) (gate p (hit b)))))
+      unit-number (ap allZero at-number ∙ sym zero-at)))
+      refl
+      (ap (unitOr x (isUnit e)) zero-at)
+
+  step-one : (x : ℕ) → x < 1 → rankRight p ms e ≡ rankRight p (one ∷ ms) (x ∷ e)
+  unfolding lead isUnit
+  step-one zero l =
+      let N = number ms e in
+      let n : number (one ∷ ms) (0 ∷ e) ≡ N = unfold number in omega arith in
+      mk-eq (sym n) (sym (ap (led p (one ∷ ms)) n ∙ led-one p ms N)) (sym (ap (unitsLed p (one ∷ ms)) n ∙ units-one p ms N)) refl refl
+  step-one (suc x) l = absurd (omega arith)
+
+pub rank-right : (p : Bool) (ms : List Modulus) (e : List ℕ) → Valid ms e → rankOf p ms e ≡ rankRight p ms e
+unfolding rankOf number lead isUnit tally
+rank-right p [] [] h = refl
+rank-right p [] (x ∷ e) h = absurd h
+rank-right p (m ∷ ms) [] h = absurd h
+rank-right p (one ∷ ms) (x ∷ e) h = rank-right p ms e (h .1) ∙ step-one p ms e (h .1) x (h .0)
+rank-right p (two ∷ ms) (x ∷ e) h = ap (λ (s : Rank). stepTwo p s x) (rank-right p ms e (h .1)) ∙ step-two p ms e (h .1) x (h .0)
+rank-right p (four ∷ ms) (x ∷ e) h = ap (λ (s : Rank). stepFour p s x) (rank-right p ms e (h .1)) ∙ step-four p ms e (h .1) x (h .0)
