@@ -1,17 +1,19 @@
 -- For the loops of this crate: one law for a loop that fills an array from the front, the moduli by index, and each definition by
 -- index. Assumes nothing.
 use mathlib.Core.Path.{_≡_, refl, ap, sym, _∙_}
-use mathlib.Core.Bool.{true, false}
+use mathlib.Core.Bool.{Bool, true, false, _&&_}
 use mathlib.Core.List.{List, [], _∷_}
 use Prim.Native.Nat.{ℕ, zero, suc, _+_, _*_, _-_, _/_, _%_, _^_, _≤_, _<_}
 use native.Mathlib.Nat.{mod-add-div, mul-add, add-mul, mul-assoc, mul-left-comm, mul-comm, mod-lt, pow-succ', mul-le-mul, pow-le-pow-right}
 use native.Mathlib.Numerals.{add-one}
 use native.Mathlib.Omega.{arith}
-use borrow.Author.Tests.{ne-eqb}
+use borrow.Author.Tests.{eqb-true, eq-eqb, ne-eqb}
+use lib.Dec.{eqb}
 use lib.ListN.{length, take, drop, getD, set, replicate, length-set, length-drop, drop-of-length-le}
 use lib.Seq.{take-suc, take-suc-set, take-all, drop-cons, getD-drop}
 use Rattle.group.specs.Group.{Modulus, one, two, four, radix, moduliOf, moduli, hd, tl, zeros, sum, negative, times, number, element}
-use Rattle.group.specs.Sign.{allZero}
+use Rattle.group.specs.Sign.{same, allZero, firstOf}
+use Rattle.group.proofs.Signs.{agree}
 
 -- ---- a loop that fills r from the front: the first i of its n elements are those of s
 abbrev pub Filled : ℕ → List ℕ → List ℕ → ℕ → Type 0
@@ -224,7 +226,7 @@ number-small (m ∷ ms) x =
     digit two x n s l = omega arith
     digit four x n s l = omega arith
 
-number-drop-lt : (a b j : ℕ) (x : List ℕ) → number (drop j (moduli a b)) x < 2 ^ 24
+pub number-drop-lt : (a b j : ℕ) (x : List ℕ) → number (drop j (moduli a b)) x < 2 ^ 24
 number-drop-lt a b j x =
     let l : length (drop j (moduli a b)) ≤ 12 = rw (length-drop, length-moduli) (omega arith) in
     omega (arith, number-small (drop j (moduli a b)) x, pow-le-pow-right {n = 4} (omega arith) l)
@@ -242,21 +244,53 @@ number-turn a b x n i l p q e =
       number-drop-lt a b (i - 1) (drop (i - 1) x),
     )
 
--- ---- the search for a component that is not 0
-zero-cons : (x : ℕ) (e : List ℕ) → x ≡ 0 → allZero (x ∷ e) ≡ allZero e
-unfolding allZero
-zero-cons x e p = rw p
+-- ---- the search for a component that is not 0, and for one that differs
+first-zero : (x : ℕ) (e : List ℕ) → x ≡ 0 → firstOf (x ∷ e) ≡ suc (firstOf e)
+unfolding firstOf
+first-zero x e p = rw p
 
-not-zero-cons : (x : ℕ) (e : List ℕ) → (x ≡ 0 → ⊥) → allZero (x ∷ e) ≡ false
-unfolding allZero
-not-zero-cons x e n = rw (ne-eqb x 0 n)
+first-other : (x : ℕ) (e : List ℕ) → (x ≡ 0 → ⊥) → firstOf (x ∷ e) ≡ 0
+unfolding firstOf
+first-other zero e n = absurd (n refl)
+first-other (suc x) e n = refl
 
-pub zero-step : (x : List ℕ) (i : ℕ) → i < length x → getD x i 0 ≡ 0 → allZero (drop i x) ≡ allZero (drop (i + 1) x)
-zero-step x i h e = rw (drop-cons x i 0, add-one) (zero-cons (getD x i 0) (drop (suc i) x) e)
+pub first-step : (x : List ℕ) (i : ℕ) → i < length x → getD x i 0 ≡ 0 → firstOf (drop i x) ≡ suc (firstOf (drop (i + 1) x))
+first-step x i h e = rw (drop-cons x i 0, add-one) (first-zero (getD x i 0) (drop (suc i) x) e)
 
-pub zero-not : (x : List ℕ) (i : ℕ) → i < length x → (getD x i 0 ≡ 0 → ⊥) → allZero (drop i x) ≡ false
-zero-not x i h e = rw (drop-cons x i 0) (not-zero-cons (getD x i 0) (drop (suc i) x) e)
+pub first-found : (x : List ℕ) (i : ℕ) → i < length x → (getD x i 0 ≡ 0 → ⊥) → firstOf (drop i x) ≡ 0
+first-found x i h e = rw (drop-cons x i 0) (first-other (getD x i 0) (drop (suc i) x) e)
 
-pub zero-end : (x : List ℕ) (i : ℕ) → length x ≤ i → allZero (drop i x) ≡ true
-unfolding allZero
-zero-end x i h = rw (drop-of-length-le x h)
+pub first-end : (x : List ℕ) (i : ℕ) → length x ≤ i → firstOf (drop i x) ≡ 0
+unfolding firstOf
+first-end x i h = rw (drop-of-length-le x h)
+
+pub zero-first : (x : List ℕ) → eqb (firstOf x) (length x) ≡ allZero x
+unfolding firstOf allZero
+zero-first [] = refl
+zero-first (zero ∷ x) = eqb-suc (firstOf x) (length x) ∙ zero-first x
+  where
+    eqb-suc : (a b : ℕ) → eqb (suc a) (suc b) ≡ eqb a b
+    eqb-suc a b =
+        agree (eqb (suc a) (suc b)) (eqb a b)
+        (λ t. let p = eqb-true (suc a) (suc b) t in eq-eqb a b (omega arith))
+        (λ t. let p = eqb-true a b t in eq-eqb (suc a) (suc b) (omega arith))
+zero-first (suc x ∷ e) = ne-eqb 0 (suc (length e)) (omega arith) ∙ sym (ap (λ (b : Bool). b && allZero e) (ne-eqb (suc x) 0 (omega arith)))
+
+same-cons : (x y : ℕ) (e f : List ℕ) → x ≡ y → same (x ∷ e) (y ∷ f) ≡ same e f
+unfolding same
+same-cons x y e f p = rw (eq-eqb x y p)
+
+differ-cons : (x y : ℕ) (e f : List ℕ) → (x ≡ y → ⊥) → same (x ∷ e) (y ∷ f) ≡ false
+unfolding same
+differ-cons x y e f n = rw (ne-eqb x y n)
+
+pub same-step : (x y : List ℕ) (i : ℕ) → i < length x → i < length y → getD x i 0 ≡ getD y i 0
+    → same (drop i x) (drop i y) ≡ same (drop (i + 1) x) (drop (i + 1) y)
+same-step x y i h k e = rw (drop-cons x i 0, drop-cons y i 0, add-one) (same-cons (getD x i 0) (getD y i 0) (drop (suc i) x) (drop (suc i) y) e)
+
+pub same-not : (x y : List ℕ) (i : ℕ) → i < length x → i < length y → (getD x i 0 ≡ getD y i 0 → ⊥) → same (drop i x) (drop i y) ≡ false
+same-not x y i h k e = rw (drop-cons x i 0, drop-cons y i 0) (differ-cons (getD x i 0) (getD y i 0) (drop (suc i) x) (drop (suc i) y) e)
+
+pub same-end : (x y : List ℕ) (i : ℕ) → length x ≤ i → length y ≤ i → same (drop i x) (drop i y) ≡ true
+unfolding same
+same-end x y i h k = rw (drop-of-length-le x h, drop-of-length-le y k)

@@ -17,6 +17,15 @@ unfoldable pub allZero : List ℕ → Bool
 allZero [] = true
 allZero (x ∷ e) = eqb x 0 && allZero e
 
+-- the index of the first component that is not 0, or how many components there are
+abbrev pub zeroOr : ℕ → ℕ → ℕ
+zeroOr zero later = suc later
+zeroOr (suc x) later = 0
+
+unfoldable pub firstOf : List ℕ → ℕ
+firstOf [] = 0
+firstOf (x ∷ e) = zeroOr x (firstOf e)
+
 -- a unit: one component is 1, every other 0
 abbrev pub unitOr : ℕ → Bool → Bool → Bool
 unitOr zero later none = later

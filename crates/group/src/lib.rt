@@ -6,7 +6,7 @@ ghost use mathlib.Core.Path.{_≡_};
 ghost use Prim.Native.Nat.{ℕ, _≤_, _<_};
 ghost use lib.ListN.{getD};
 ghost use Rattle.group.specs.Group.{one, radix, moduli, zeros, sum, negative, times, number, element};
-ghost use Rattle.group.specs.Sign.{same, allZero, isUnit, lead};
+ghost use Rattle.group.specs.Sign.{same, allZero, firstOf};
 
 // "An element is held as its list of components."
 pub type Element = [u8; 12];
@@ -61,14 +61,7 @@ pub fn multiple(a: usize, b: usize, d: u8, x: Element) -> Element
 pub fn is_zero(x: Element) -> bool
     ensures { λ r. ⌜ r ≡ allZero x ⌝ }
 {
-    let mut i: usize = 0;
-    while i < 12 {
-        if x[i] != 0 {
-            return false;
-        }
-        i += 1;
-    }
-    true
+    first(x) == 12
 }
 
 // The number of an element.
@@ -105,6 +98,34 @@ pub fn of_number(a: usize, b: usize, n: u32) -> Element
         i += 1;
     }
     r
+}
+
+// Whether two elements are equal, byte by byte.
+pub fn equal(x: Element, y: Element) -> bool
+    ensures { λ r. ⌜ r ≡ same x y ⌝ }
+{
+    let mut i: usize = 0;
+    while i < 12 {
+        if x[i] != y[i] {
+            return false;
+        }
+        i += 1;
+    }
+    true
+}
+
+// The index of the first component that is not 0, or 12.
+pub fn first(x: Element) -> usize
+    ensures { λ r. ⌜ r ≡ firstOf x ⌝ }
+{
+    let mut i: usize = 0;
+    while i < 12 {
+        if x[i] != 0 {
+            return i;
+        }
+        i += 1;
+    }
+    12
 }
 
 // The modulus of component i: 2, 4, or 1 where the component is not in use.

@@ -13,8 +13,9 @@ use Rattle.group.specs.Sign.{allZero, unitOr, isUnit, oddOr, lead}
 use Rattle.group.proofs.Laws.{valid-element}
 use Rattle.group.proofs.Numbers.{element-number, number-element, number-lt, element-zero, number-zeros}
 use Rattle.group.proofs.Signs.{lead-zeros, allZero-zeros, zeros-allZero, agree, true-T}
-use Rattle.layout.specs.Rank.{gate, hit, signOf, start, stepTwo, stepFour, stepOf, rankOf}
-use Rattle.layout.specs.declared.Rank.{Rank}
+use Rattle.layout.specs.Gate.{gate, hit}
+use Rattle.layout.specs.Rank.{signOf, start, stepTwo, stepFour, stepOf, rankOf}
+use Rattle.layout.specs.declared.rank.Rank.{Rank}
 use Rattle.layout.proofs.Tally.{tally, tally-ext, tally-add, tally-gate, tally-ones, below, below-one, below-two, below-four, rest}
 use Rattle.layout.proofs.Cover.{ofSign}
 
@@ -43,6 +44,9 @@ members-units p ms x =
     (λ y. hit (ofSign (signOf p) ms (element ms y)) + gate (isUnit (element ms y)) (hit (eqb (lead ms (element ms y)) (signOf p))))
     (λ y. hit (eqb (lead ms (element ms y)) (signOf p))) x
     (λ y l. split (eqb (lead ms (element ms y)) (signOf p)) (isUnit (element ms y)))
+
+pub units-led : (p : Bool) (ms : List Modulus) (x : ℕ) → unitsLed p ms x ≤ led p ms x
+units-led p ms x = omega (arith, members-units p ms x)
 
 -- ---- zero is the element of number 0 alone
 zero-number : (ms : List Modulus) (y : ℕ) → y < size ms → allZero (element ms y) ≡ eqb y 0
@@ -240,7 +244,8 @@ module _ (p : Bool) (ms : List Modulus) (e : List ℕ) (h : Valid ms e) where
       (sym
       (ap (unitsLed p (two ∷ ms)) n
       ∙ units-two p ms x N l (le-of-lt (number-lt ms e))
-      ∙ ap (λ (k : ℕ). unitsLed p ms N + (gate (eqb (signOf p) 0) (hit (ltb 0 N)) + gate (eqb x 1) k)) unit-number))
+      ∙ ap (λ (k : ℕ). unitsLed p ms N + (gate (eqb (signOf p) 0) (hit (ltb 0 N)) + gate (eqb x 1) k)) unit-number
+      ∙ omega arith))
       refl
       (ap (unitOr x (isUnit e)) zero-at)
 
@@ -254,12 +259,14 @@ module _ (p : Bool) (ms : List Modulus) (e : List ℕ) (h : Valid ms e) where
       (sym
       (ap (led p (four ∷ ms)) n
       ∙ led-four p ms x N l
-      ∙ ap (λ (k : ℕ). 2 * led p ms N + (gate p N + (gate (leb 1 x) k + (gate (leb 2 x) (gate p 1) + gate (leb 3 x) k)))) has-number))
+      ∙ ap (λ (k : ℕ). 2 * led p ms N + (gate p N + (gate (leb 1 x) k + (gate (leb 2 x) (gate p 1) + gate (leb 3 x) k)))) has-number
+      ∙ omega arith))
       (sym
       (ap (unitsLed p (four ∷ ms)) n
       ∙ units-four p ms x N l (le-of-lt (number-lt ms e))
       ∙ ap₂ (λ (k : ℕ) (b : Bool). unitsLed p ms N + (gate p (hit (ltb 0 N)) + (gate (leb 1 x) k + gate (leb 2 x) (gate p (hit b)))))
-      unit-number (ap allZero at-number ∙ sym zero-at)))
+      unit-number (ap allZero at-number ∙ sym zero-at)
+      ∙ omega arith))
       refl
       (ap (unitOr x (isUnit e)) zero-at)
 

@@ -14,7 +14,7 @@ use Rattle.group.proofs.Laws.{valid-zeros, valid-negative, valid-element, sum-n
 use Rattle.group.proofs.Numbers.{element-number, number-element, number-lt, number-zeros, number-pos}
 use Rattle.group.proofs.Signs.{true-T, same-refl, same-eq, same-ne, same-neg, agree, Lead, even, plus, minus, lead-cases, lead-zeros, even-own, own-even, lead-negative, allZero-same, zeros-unit, isUnit3, unit3, unit-sign, negative-under, negative-unit-two, negative-unit-four, zeros-cons}
 use Rattle.layout.specs.Layout.{from, keep, Slot, single, pair, elements, inSingles, singles, inPairs, pairs, unitSlot, under, units, message, slots, places}
-use Rattle.layout.specs.Rank.{hit, gate}
+use Rattle.layout.specs.Gate.{gate, hit}
 use Rattle.layout.proofs.Lists.{count, count-append, All, all-keep, keep-agree, count-keep}
 
 -- ---- each element but zero is once among the elements

@@ -3,3 +3,6 @@ pub mod Lists
 pub mod Cover
 pub mod Tally
 pub mod Below
+pub mod Sizes
+pub mod Read
+pub mod Index

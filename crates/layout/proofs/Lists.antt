@@ -8,7 +8,7 @@ use lib.ListN.{length, getD}
 use Rattle.group.specs.Sign.{same}
 use Rattle.group.proofs.Signs.{same-eq}
 use Rattle.layout.specs.Layout.{from, keep}
-use Rattle.layout.specs.Rank.{hit, gate}
+use Rattle.layout.specs.Gate.{gate, hit}
 
 -- how many members pass
 unfoldable pub count : (List ℕ → Bool) → List (List ℕ) → ℕ

@@ -5,7 +5,7 @@ use mathlib.Core.Bool.{Bool, true, false}
 use Prim.Native.Nat.{ℕ, zero, suc, _+_, _*_, _/_, _%_, _<_, _≤_}
 use native.Mathlib.Omega.{arith}
 use Rattle.group.specs.Group.{Modulus, one, two, four, element}
-use Rattle.layout.specs.Rank.{hit, gate}
+use Rattle.layout.specs.Gate.{gate, hit}
 
 unfoldable pub tally : (ℕ → ℕ) → ℕ → ℕ
 tally f zero = 0

@@ -2,24 +2,23 @@
 -- elements with a smaller number. A device of the code; no theorem about the layout speaks of it. Assumes nothing.
 use mathlib.Core.List.{List, [], _∷_}
 use mathlib.Core.Bool.{Bool, true, false}
-use Prim.Native.Nat.{ℕ, _+_, _*_}
+use Prim.Native.Nat.{ℕ, _+_, _*_, _^_, _<_}
 use lib.Dec.{eqb, leb, ltb}
 use Rattle.group.specs.Group.{Modulus, one, two, four, hd, tl}
 use Rattle.group.specs.Sign.{unitOr, oddOr}
-use Rattle.layout.specs.declared.Rank.{Rank}
-
--- n where a test passes, and 1 where it passes
-abbrev pub gate : Bool → ℕ → ℕ
-gate true n = n
-gate false n = 0
-
-abbrev pub hit : Bool → ℕ
-hit b = gate b 1
+use Rattle.layout.specs.Gate.{gate}
+use Rattle.layout.specs.Layout.{singles, pairs}
+use Rattle.layout.specs.declared.rank.Rank.{Rank}
 
 -- the sign of the message's pairs, and of its singles
 abbrev pub signOf : Bool → ℕ
 signOf true = 1
 signOf false = 0
+
+-- the two parts of the message
+abbrev pub partOf : Bool → List Modulus → List (List ℕ)
+partOf true ms = pairs ms
+partOf false ms = singles ms
 
 -- nothing is read yet
 abbrev pub start : Rank
@@ -32,7 +31,7 @@ stepTwo p s d =
     record {
       number = 2 * s .number + d;
       led = 2 * s .led + gate (eqb d 1) here;
-      units = s .units + (gate (eqb (signOf p) 0) (gate (ltb 0 (s .number)) 1) + gate (eqb d 1) (gate (s .unit) here));
+      units = s .units + gate (eqb (signOf p) 0) (gate (ltb 0 (s .number)) 1) + gate (eqb d 1) (gate (s .unit) here);
       lead = s .lead;
       unit = unitOr d (s .unit) (eqb (s .number) 0)
     }
@@ -42,8 +41,8 @@ stepFour p s d =
     let here = gate (eqb (s .lead) (signOf p)) 1 in
     record {
       number = 4 * s .number + d;
-      led = 2 * s .led + (gate p (s .number) + (gate (leb 1 d) here + (gate (leb 2 d) (gate p 1) + gate (leb 3 d) here)));
-      units = s .units + (gate p (gate (ltb 0 (s .number)) 1) + (gate (leb 1 d) (gate (s .unit) here) + gate (leb 2 d) (gate p (gate (eqb (s .number) 0) 1))));
+      led = 2 * s .led + gate p (s .number) + gate (leb 1 d) here + gate (leb 2 d) (gate p 1) + gate (leb 3 d) here;
+      units = s .units + gate p (gate (ltb 0 (s .number)) 1) + gate (leb 1 d) (gate (s .unit) here) + gate (leb 2 d) (gate p (gate (eqb (s .number) 0) 1));
       lead = oddOr d (s .lead);
       unit = unitOr d (s .unit) (eqb (s .number) 0)
     }
@@ -57,3 +56,9 @@ stepOf four p s d = stepFour p s d
 unfoldable pub rankOf : Bool → List Modulus → List ℕ → Rank
 rankOf p [] e = start
 rankOf p (m ∷ ms) e = stepOf m p (rankOf p ms (tl e)) (hd e)
+
+-- so small that a step does not overflow
+pub record Small (s : Rank) : Type 0 where
+  pub number : s .number < 2 ^ 24
+  pub led : s .led < 2 ^ 24
+  pub units : s .units < 2 ^ 24

@@ -1,48 +1,22 @@
--- `group::is_zero` meets its contract: the components passed are 0, so the rest decides. Assumes nothing.
+-- `group::is_zero` meets its contract: no component is found that is not 0. Assumes nothing.
 use borrow.Author.Needs.{needs}
-use mathlib.Core.Path.{_≡_, sym, _∙_}
-use Prim.Native.Nat.{_≤_, _-_}
-use native.Mathlib.Omega.{arith}
-use lib.ListN.{drop}
-use Rattle.group.specs.Sign.{allZero}
-use Rattle.group.proofs.Fill.{zero-step, zero-end, zero-not}
+use mathlib.Core.Path.{_≡_, ap, sym, _∙_}
+use Prim.Native.Nat.{ℕ}
+use lib.Dec.{eqb}
+use lib.ListN.{length}
+use Rattle.group.specs.Sign.{firstOf}
+use Rattle.group.proofs.Fill.{zero-first}
 use Rattle.group.proofs.is_zero.Statement.{statement}
 use Rattle.group.proofs.is_zero.Tie as tie
 
-abbrev Inv-loop : tie.InvT-loop
-Inv-loop x i₀ i = (i ≤ 12) × (allZero x ≡ allZero (drop i x))
+first-requires : tie.Need-first-requires
+first-requires c κs = search needs
 
-abbrev μ-loop : tie.MeasureT-loop
-μ-loop x i₀ i = 12 - i
-
-loop-holds : tie.Need-loop-holds Inv-loop μ-loop
-loop-holds c = search needs
-
-array-read-if1 : tie.Need-array-read-if1 Inv-loop μ-loop
-array-read-if1 c = search needs
-
-returns : tie.Need-returns Inv-loop μ-loop
+returns : tie.Need-returns
 returns c =
-    sym
-    (c .before .before .loop .inv .1
-    ∙ zero-not (c .before .before .before .args .t1) (c .before .before .loop .i) (search needs) (c .if1 .taken))
-
-add-i : tie.Need-add-i Inv-loop μ-loop
-add-i c = search needs
-
-loop-less : tie.Need-loop-less Inv-loop μ-loop
-loop-less c = search needs
-
-loop-again : tie.Need-loop-again Inv-loop μ-loop
-loop-again c = (
-  omega arith,
-  c .before .before .loop .inv .1
-      ∙ zero-step (c .before .before .before .args .t1) (c .before .before .loop .i) (search needs) (c .if1 .left),
-)
-
-returns-2 : tie.Need-returns-2 Inv-loop μ-loop
-returns-2 c =
-    sym (c .before .loop .inv .1 ∙ zero-end (c .before .before .args .t1) (c .before .loop .i) (search needs))
+    let x = c .before .args .x in
+    let n : length x ≡ 12 = search needs in
+    rw (c .first .ensures) (ap (eqb (firstOf x)) (sym n) ∙ zero-first x)
 
 pub is-zero-spec : {M : Type 1} → statement M
-is-zero-spec = tie.close (tie.spec Inv-loop μ-loop loop-holds array-read-if1 returns add-i loop-less loop-again returns-2)
+is-zero-spec = tie.close (tie.spec first-requires returns)

@@ -1,0 +1,47 @@
+-- `layout::admitted` meets its contract: it stops at the first inequality that fails. Assumes nothing.
+use mathlib.Core.Path.{_≡_}
+use Prim.Native.Nat.{ℕ, _-_, _*_, _≤_}
+use native.Mathlib.Omega.{arith}
+use lib.Dec.{leb}
+use borrow.Author.Tests.{leb-true, le-leb, lt-leb}
+use Rattle.group.proofs.Signs.{agree}
+use Rattle.layout.specs.Parameters.{admits}
+use Rattle.layout.proofs.admitted.Statement.{statement}
+use Rattle.layout.proofs.admitted.Tie as tie
+
+-- the last test takes r from t, so that nothing overflows
+twice : (t r : ℕ) → r ≤ t → leb (t - r) r ≡ leb t (2 * r)
+twice t r h =
+    agree (leb (t - r) r) (leb t (2 * r))
+    (λ e. let k = leb-true (t - r) r e in le-leb t (2 * r) (omega arith))
+    (λ e. let k = leb-true t (2 * r) e in le-leb (t - r) r (omega arith))
+
+returns : tie.Need-returns
+unfolding admits
+returns c = rw (lt-leb _ _ (c .if1 .taken))
+
+returns-2 : tie.Need-returns-2
+unfolding admits
+returns-2 c = rw (le-leb _ _ (c .before .if1 .left), lt-leb _ _ (c .if2 .taken))
+
+returns-3 : tie.Need-returns-3
+unfolding admits
+returns-3 c = rw (le-leb _ _ (c .before .before .if1 .left), le-leb _ _ (c .before .if2 .left), lt-leb _ _ (c .if3 .taken))
+
+returns-4 : tie.Need-returns-4
+unfolding admits
+returns-4 c =
+    let s = c .before .before in
+    rw
+    (le-leb _ _ (s .before .if1 .left), le-leb _ _ (s .if2 .left), le-leb _ _ (c .before .if3 .left), lt-leb _ _ (c .if4 .taken))
+
+returns-5 : tie.Need-returns-5
+unfolding admits
+returns-5 c =
+    let s = c .before .before in
+    rw
+    (le-leb _ _ (s .before .if1 .left), le-leb _ _ (s .if2 .left), le-leb _ _ (c .before .if3 .left), le-leb _ _ (c .if4 .left))
+    (twice _ _ (c .if4 .left))
+
+pub admitted-spec : {M : Type 1} → statement M
+admitted-spec = tie.close (tie.spec returns returns-2 returns-3 returns-4 returns-5)
