@@ -8,14 +8,17 @@ use native.Mathlib.Omega.{arith}
 use lib.Dec.{eqb}
 use lib.ListN.{length, drop, getD, drop-of-length-le}
 use lib.Seq.{drop-cons}
-use Rattle.group.specs.Group.{Modulus, one, two, four, radix, moduli, Valid, number, element}
+use Rattle.group.specs.Group.{Modulus, one, two, four, radix, moduli, Valid, number, element, size}
 use Rattle.group.specs.Sign.{lead}
+use Rattle.group.proofs.Laws.{valid-element}
+use Rattle.group.proofs.Numbers.{number-element}
 use Rattle.group.proofs.Fill.{length-moduli, radix-small, number-drop-lt}
 use Rattle.layout.specs.Gate.{gate, hit}
 use Rattle.layout.specs.Rank.{signOf, start, stepOf, rankOf, Small}
 use Rattle.layout.specs.declared.rank.Rank.{Rank}
 use Rattle.layout.proofs.Tally.{tally}
-use Rattle.layout.proofs.Below.{led, unitsLed, rankRight, rank-right, units-led}
+use Rattle.layout.proofs.Below.{led, unitsLed, members, members-units, rankRight, rank-right, units-led}
+use Rattle.layout.proofs.Cover.{ofSign}
 
 pub valid-drop : (ms : List Modulus) (x : List ℕ) (i : ℕ) → Valid ms x → Valid (drop i ms) (drop i x)
 valid-drop [] [] i h = none i
@@ -52,6 +55,21 @@ tally-le q (suc n) = let i = tally-le q n in omega (arith, hit-le (q n))
     hit-le : (b : Bool) → hit b ≤ 1
     hit-le true = omega arith
     hit-le false = omega arith
+
+pub members-le : (p : Bool) (ms : List Modulus) (x : ℕ) → members p ms x ≤ x
+members-le p ms x = tally-le (λ y. ofSign (signOf p) ms (element ms y)) x
+
+-- what is read of an element says how many members of the part have a smaller number
+pub below-count : (p : Bool) (ms : List Modulus) (x : List ℕ) → Valid ms x
+    → (rankOf p ms x .units ≤ rankOf p ms x .led) × (rankOf p ms x .led - rankOf p ms x .units ≡ members p ms (number ms x))
+below-count p ms x h =
+    subst (λ (s : Rank). (s .units ≤ s .led) × (s .led - s .units ≡ members p ms (number ms x))) (sym (rank-right p ms x h))
+    (units-led p ms (number ms x), omega (arith, members-units p ms (number ms x)))
+
+-- the same of the element of a number
+pub below-number : (p : Bool) (ms : List Modulus) (x : ℕ) → x < size ms
+    → rankOf p ms (element ms x) .led - rankOf p ms (element ms x) .units ≡ members p ms x
+below-number p ms x h = below-count p ms (element ms x) (valid-element ms x) .1 ∙ ap (members p ms) (number-element ms x h)
 
 -- what is read of an element's last components is small
 pub small-rank : (p : Bool) (a b i : ℕ) (x : List ℕ) → Valid (moduli a b) x → Small (rankOf p (drop i (moduli a b)) (drop i x))

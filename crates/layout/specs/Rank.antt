@@ -1,11 +1,12 @@
 -- How the code finds the place of an element without a table: it reads the components from the last to the first and keeps count of the
 -- elements with a smaller number. A device of the code; no theorem about the layout speaks of it. Assumes nothing.
+use mathlib.Core.Path.{_≡_}
 use mathlib.Core.List.{List, [], _∷_}
 use mathlib.Core.Bool.{Bool, true, false}
 use Prim.Native.Nat.{ℕ, _+_, _*_, _^_, _<_}
 use lib.Dec.{eqb, leb, ltb}
-use Rattle.group.specs.Group.{Modulus, one, two, four, hd, tl}
-use Rattle.group.specs.Sign.{unitOr, oddOr}
+use Rattle.group.specs.Group.{Modulus, one, two, four, hd, tl, Valid, number}
+use Rattle.group.specs.Sign.{unitOr, isUnit, oddOr, lead}
 use Rattle.layout.specs.Gate.{gate}
 use Rattle.layout.specs.Layout.{singles, pairs}
 use Rattle.layout.specs.declared.rank.Rank.{Rank}
@@ -19,6 +20,13 @@ signOf false = 0
 abbrev pub partOf : Bool → List Modulus → List (List ℕ)
 partOf true ms = pairs ms
 partOf false ms = singles ms
+
+-- e stands in the part
+pub record Member (p : Bool) (ms : List Modulus) (e : List ℕ) : Type 0 where
+  pub valid : Valid ms e
+  pub nonzero : 0 < number ms e
+  pub sign : lead ms e ≡ signOf p
+  pub other : isUnit e ≡ false
 
 -- nothing is read yet
 abbrev pub start : Rank

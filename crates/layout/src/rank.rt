@@ -8,7 +8,7 @@ ghost use lib.ListN.{length, getD};
 ghost use Rattle.group.specs.Group.{one, Valid, moduli, zeros, size};
 ghost use Rattle.group.specs.Sign.{oddOr, unitOr};
 ghost use Rattle.layout.specs.Gate.{gate};
-ghost use Rattle.layout.specs.Rank.{signOf, partOf, stepTwo, stepFour, stepOf, rankOf, Small};
+ghost use Rattle.layout.specs.Rank.{signOf, partOf, stepTwo, stepFour, stepOf, rankOf, Small, Member};
 
 use group::Element;
 
@@ -153,4 +153,43 @@ fn step(a: usize, b: usize, pairs: bool, i: usize, s: Rank, d: u8) -> Rank
         return step_four(pairs, s, d);
     }
     s
+}
+
+// How many members of the part have a smaller number than x; zero counts with the singles.
+fn below(a: usize, b: usize, pairs: bool, x: Element) -> u32
+    requires { ⌜ Valid (moduli a b) x ⌝ }
+    ensures { λ r. ⌜ r ≡ rankOf pairs (moduli a b) x .led - rankOf pairs (moduli a b) x .units ⌝ }
+{
+    let s = read(a, b, pairs, x);
+    let led = s.led;
+    let units = s.units;
+    led - units
+}
+
+// Where a member stands in its part, counted from 0.
+pub(crate) fn position(a: usize, b: usize, pairs: bool, x: Element) -> u32
+    requires { ⌜ Member pairs (moduli a b) x ⌝ }
+    ensures { λ r. ⌜ (r < length (partOf pairs (moduli a b))) × (getD (partOf pairs (moduli a b)) r (zeros (moduli a b)) ≡ x) ⌝ }
+{
+    let n = below(a, b, pairs, x);
+    n - when(!pairs, 1)
+}
+
+// The member that stands at an index of its part: found by halving the numbers that it can have.
+pub(crate) fn member(a: usize, b: usize, pairs: bool, index: u32, count: u32) -> Element
+    requires { ⌜ (count ≡ size (moduli a b)) × (index < length (partOf pairs (moduli a b))) ⌝ }
+    ensures { λ r. ⌜ r ≡ getD (partOf pairs (moduli a b)) index (zeros (moduli a b)) ⌝ }
+{
+    let goal = index + when(!pairs, 1);
+    let mut low: u32 = 0;
+    let mut high: u32 = count;
+    while 1 < high - low {
+        let middle = low + (high - low) / 2;
+        if below(a, b, pairs, group::of_number(a, b, middle)) <= goal {
+            low = middle;
+        } else {
+            high = middle;
+        }
+    }
+    group::of_number(a, b, low)
 }
