@@ -6,3 +6,5 @@ pub mod Below
 pub mod Sizes
 pub mod Read
 pub mod Index
+pub mod Parameters
+pub mod Units

@@ -3,9 +3,10 @@
 use mathlib.Core.Path.{_≡_}
 use mathlib.Core.List.{List, [], _∷_}
 use mathlib.Core.Bool.{Bool, true, false}
-use Prim.Native.Nat.{ℕ, _+_, _*_, _^_, _<_}
+use Prim.Native.Nat.{ℕ, _+_, _*_, _^_, _<_, _≤_}
 use lib.Dec.{eqb, leb, ltb}
-use Rattle.group.specs.Group.{Modulus, one, two, four, hd, tl, Valid, number}
+use lib.ListN.{length}
+use Rattle.group.specs.Group.{Modulus, one, two, four, moduli, hd, tl, Valid, number}
 use Rattle.group.specs.Sign.{unitOr, isUnit, oddOr, lead}
 use Rattle.layout.specs.Gate.{gate}
 use Rattle.layout.specs.Layout.{singles, pairs}
@@ -70,3 +71,10 @@ pub record Small (s : Rank) : Type 0 where
   pub number : s .number < 2 ^ 24
   pub led : s .led < 2 ^ 24
   pub units : s .units < 2 ^ 24
+
+-- part 1 has x places and the message y, at the moduli of a and b
+pub record Located (a b x y : ℕ) : Type 0 where
+  pub room : a + b ≤ 12
+  pub part : x ≡ length (singles (moduli a b))
+  pub front : y ≡ length (singles (moduli a b)) + 2 * length (pairs (moduli a b))
+  pub small : y < 2 ^ 24
