@@ -8,3 +8,4 @@ pub mod Read
 pub mod Index
 pub mod Parameters
 pub mod Units
+pub mod Locate

@@ -1,5 +1,6 @@
 -- The loop that reads an element's components from the last to the first: one step, and that nothing overflows. Assumes nothing.
 use mathlib.Core.Path.{_≡_, refl, sym, ap, subst, _∙_}
+use mathlib.Core.Logic.{_⊎_, inl, inr, ⊎-elim}
 use mathlib.Core.List.{List, [], _∷_}
 use mathlib.Core.Bool.{Bool, true, false}
 use Prim.Native.Nat.{ℕ, zero, suc, _+_, _-_, _^_, _<_, _≤_}
@@ -9,12 +10,13 @@ use lib.Dec.{eqb}
 use lib.ListN.{length, drop, getD, drop-of-length-le}
 use lib.Seq.{drop-cons}
 use Rattle.group.specs.Group.{Modulus, one, two, four, radix, moduli, Valid, number, element, size}
-use Rattle.group.specs.Sign.{lead}
+use Rattle.group.specs.Sign.{isUnit, lead}
 use Rattle.group.proofs.Laws.{valid-element}
-use Rattle.group.proofs.Numbers.{number-element}
+use Rattle.group.proofs.Numbers.{number-element, number-pos}
+use Rattle.group.proofs.Signs.{lead-zeros}
 use Rattle.group.proofs.Fill.{length-moduli, radix-small, number-drop-lt}
 use Rattle.layout.specs.Gate.{gate, hit}
-use Rattle.layout.specs.Rank.{signOf, start, stepOf, rankOf, Small}
+use Rattle.layout.specs.Rank.{signOf, start, stepOf, rankOf, Small, Member}
 use Rattle.layout.specs.declared.rank.Rank.{Rank}
 use Rattle.layout.proofs.Tally.{tally}
 use Rattle.layout.proofs.Below.{led, unitsLed, members, members-units, rankRight, rank-right, units-led}
@@ -99,3 +101,10 @@ rank-step p a b i x h k l =
     sym
     (rank-cons p ms x (i - 1) (omega (arith, length-moduli a b)) (omega arith)
     ∙ ap (λ (n : ℕ). stepOf (getD ms (i - 1) one) p (rankOf p (drop n ms) (drop n x)) (getD x (i - 1) 0)) j)
+
+-- an element of the part's sign that is neither zero nor a unit is a member
+pub member-of : (p : Bool) (ms : List Modulus) (e : List ℕ) → Valid ms e → (0 < number ms e) ⊎ (0 < lead ms e) → lead ms e ≡ signOf p → isUnit e ≡ false → Member p ms e
+member-of p ms e v n s u = record { valid = v; nonzero = ⊎-elim (λ h. h) (λ h. number-pos ms e v (λ z. clash (ap (lead ms) z ∙ lead-zeros ms) h)) n; sign = s; other = u }
+  where
+    clash : lead ms e ≡ 0 → 0 < lead ms e → ⊥
+    clash z h = omega arith

@@ -9,50 +9,28 @@ use Rattle.group.proofs.of_number.Reads as of-number-reads
 use Rattle.layout.proofs.narrow.Reads as narrow-reads
 use Rattle.layout.proofs.place_of_valid.Reads as place-of-valid-reads
 use Rattle.layout.proofs.shape_of.Reads as shape-of-reads
-
--- src/lib.rt:153:9
 shape-of-requires : tie.Need-shape-of-requires
 shape-of-requires c κs = search needs
-
--- src/lib.rt:157:9
 returns : tie.Need-returns
-returns c = search needs
-
--- src/lib.rt:159:9
+returns c = ?
 number-of-requires : tie.Need-number-of-requires
 number-of-requires c κs = search needs
-
--- src/lib.rt:161:9
 returns-2 : tie.Need-returns-2
-returns-2 c = search needs
-
--- src/lib.rt:163:24
+returns-2 c = ?
 of-number-requires : tie.Need-of-number-requires
 of-number-requires c κs = search needs
-
--- src/lib.rt:163:8
 equal-requires : tie.Need-equal-requires
 equal-requires c κs = search needs
-
--- src/lib.rt:164:31
 narrow-requires : tie.Need-narrow-requires
-narrow-requires c κs = search needs
-
--- src/lib.rt:164:20
+narrow-requires c κs = ?
 sub-part : tie.Need-sub-part
-sub-part c = search needs
-
--- src/lib.rt:165:9
+sub-part c = ?
 place-of-valid-requires : tie.Need-place-of-valid-requires
-place-of-valid-requires c κs = search needs
-
--- src/lib.rt:165:9
+place-of-valid-requires c κs = ?
 returns-3 : tie.Need-returns-3
-returns-3 c = search needs
-
--- src/lib.rt:150:1
+returns-3 c = ?
 returns-4 : tie.Need-returns-4
-returns-4 c = search needs
+returns-4 c = ?
 
 pub place-of-spec : {M : Type 1} → statement M
 place-of-spec =
