@@ -4,6 +4,7 @@ pub mod Cover
 pub mod Tally
 pub mod Below
 pub mod Sizes
+pub mod Places
 pub mod Read
 pub mod Index
 pub mod Parameters

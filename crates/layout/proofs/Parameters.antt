@@ -15,9 +15,9 @@ use Rattle.group.proofs.Fill.{zeros-moduli}
 use Rattle.group.proofs.Numbers.{size-moduli}
 use Rattle.group.proofs.Signs.{both}
 use Rattle.layout.specs.Parameters.{longest, Admitted, admits, placesOf, pairsOf, messageOf, binaryOf, quaternaryOf, moduliFor}
-use Rattle.layout.specs.Layout.{singles, pairs, slots, places, elementAt}
+use Rattle.layout.specs.Layout.{singles, pairs, slots, places, elementAt, placeOf}
 use Rattle.layout.specs.Gate.{gate}
-use Rattle.layout.specs.Calls.{shapeFor, elementFor}
+use Rattle.layout.specs.Calls.{shapeFor, elementFor, placeFor}
 use Rattle.layout.specs.declared.Shape.{Shape}
 use Rattle.layout.proofs.Sizes.{twos, fours, halves, length-singles, length-pairs, length-places, shape-moduli}
 
@@ -187,3 +187,20 @@ element-beyond t r p h = go (admits t r) refl p h
         ap (λ (b : Bool). elementAt (moduliFor t r) (gate b (suc i))) y
         ∙ List·getD-eq-default (places (moduliFor t r) (slots (moduliFor t r))) (zeros (moduliFor t r)) (omega arith)
     go false y (suc i) k = ap (λ (b : Bool). elementAt (moduliFor t r) (gate b (suc i))) y
+
+-- the place of an element, where the parameters are admitted and where they are not
+pub place-for : (t r : ℕ) (e : List ℕ) → Admitted t r → placeFor t r e ≡ placeOf (moduliFor t r) e
+unfolding placeFor
+place-for t r e h = ap (λ (b : Bool). gate b (placeOf (moduliFor t r) e)) (admitted-admits t r h)
+
+pub place-nowhere : (t r : ℕ) (e : List ℕ) (s : Shape) → s ≡ shapeFor t r → s .places ≡ 0 → placeFor t r e ≡ 0
+unfolding shapeFor placeFor
+place-nowhere t r e s k z = go (admits t r) refl
+  where
+    go : (b : Bool) → admits t r ≡ b → placeFor t r e ≡ 0
+    go true y =
+        let n : s .places ≡ placesOf t = ap (λ (x : Shape). x .places) k ∙ ap (λ (b : Bool). gate b (placesOf t)) y in
+        let h = admits-admitted t r y in
+        let p = below-power t in
+        absurd (omega arith)
+    go false y = ap (λ (b : Bool). gate b (placeOf (moduliFor t r) e)) y

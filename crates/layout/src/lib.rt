@@ -131,6 +131,7 @@ pub fn element_at(t: u32, r: u32, place: u32) -> Element
     let a = s.a;
     let b = s.b;
     let n = s.places;
+    let k = s.binary;
     let message = s.message;
     if place == 0 {
         return group::zero(a, b);
@@ -140,7 +141,7 @@ pub fn element_at(t: u32, r: u32, place: u32) -> Element
     }
     let i = place - 1;
     if i < message {
-        let part = s.binary - narrow(a);
+        let part = k - narrow(a);
         return message_element(a, b, i, part, n + 1);
     }
     check_element(a, b, (i - message) as usize)
@@ -153,7 +154,10 @@ pub fn place_of(t: u32, r: u32, e: Element) -> u32
     let s = shape_of(t, r);
     let a = s.a;
     let b = s.b;
-    if s.places == 0 {
+    let n = s.places;
+    let k = s.binary;
+    let message = s.message;
+    if n == 0 {
         return 0;
     }
     let x = group::number_of(a, b, e);
@@ -161,8 +165,8 @@ pub fn place_of(t: u32, r: u32, e: Element) -> u32
         return 0;
     }
     if group::equal(e, group::of_number(a, b, x)) {
-        let part = s.binary - narrow(a);
-        return place_of_valid(a, b, e, part, s.message);
+        let part = k - narrow(a);
+        return place_of_valid(a, b, e, part, message);
     }
     0
 }

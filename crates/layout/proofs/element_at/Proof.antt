@@ -46,20 +46,20 @@ narrow-requires : tie.Need-narrow-requires
 narrow-requires c κs = let k = sizes-known _ _ _ (past (c .before)) in omega arith
 
 sub-part : tie.Need-sub-part
-sub-part c = let k = sizes-known _ _ _ (past (c .before .before .before)) in omega arith
+sub-part c = let k = sizes-known _ _ _ (past (c .before .before)) in omega arith
 
 add-message-element : tie.Need-add-message-element
-add-message-element c = let k = sizes-known _ _ _ (past (c .before .before .before)) in omega arith
+add-message-element c = let k = sizes-known _ _ _ (past (c .before .before)) in omega arith
 
 message-element-requires : tie.Need-message-element-requires
-message-element-requires c κs = let k = sizes-known _ _ _ (past (c .before .before .before)) in omega arith
+message-element-requires c κs = let k = sizes-known _ _ _ (past (c .before .before)) in omega arith
 
 back : (p : ℕ) → (p ≡ 0 → ⊥) → p - 1 + 1 ≡ p
 back p h = omega arith
 
 returns-3 : tie.Need-returns-3
 returns-3 c =
-    let q = c .before .before .before .before in
+    let q = c .before .before .before in
     let g = q .before .before .before .args in
     let k = past q in
     let e : g .place - 1 + 1 ≡ g .place = back (g .place) (q .before .if1 .left) in
