@@ -10,3 +10,5 @@ pub mod Index
 pub mod Parameters
 pub mod Units
 pub mod Locate
+pub mod Theorem
+pub mod Printed

@@ -80,6 +80,16 @@ valid-slots ms (pair z ∷ sl) g = (valid-negative ms z, (g .0, valid-slots ms s
 pub valid-places : (ms : List Modulus) → All (Valid ms) (places ms (slots ms))
 valid-places ms = valid-slots ms (slots ms) (good-slots ms)
 
+valid-getD : (ms : List Modulus) (xs : List (List ℕ)) (i : ℕ) → All (Valid ms) xs → Valid ms (getD xs i (zeros ms))
+valid-getD ms [] i h = valid-zeros ms
+valid-getD ms (x ∷ xs) zero h = h .0
+valid-getD ms (x ∷ xs) (suc i) h = valid-getD ms xs i (h .1)
+
+pub valid-at-place : (ms : List Modulus) (p : ℕ) → Valid ms (elementAt ms p)
+unfolding elementAt
+valid-at-place ms zero = valid-zeros ms
+valid-at-place ms (suc i) = valid-getD ms (places ms (slots ms)) i (valid-places ms)
+
 -- ---- searching a list in which an element stands once, or not at all
 place-here : (p : ℕ) (e x : List ℕ) (xs : List (List ℕ)) → same e x ≡ true → placeFrom p e (x ∷ xs) ≡ p
 unfolding placeFrom

@@ -1,7 +1,7 @@
 // The layout of places: which parameters are admitted, the element of a place, and the place of an
 // element. No table is kept: the code finds an element's rank among those of its part from its
 // components (rank.rt). Definitions are in specs/Parameters.antt and specs/Layout.antt, the theorems
-// on them in proofs/Places.antt and proofs/Admitted.antt.
+// on them in proofs/Places.antt and proofs/Theorem.antt.
 mod rank;
 
 ghost use mathlib.Core.Path.{_≡_};

@@ -1,0 +1,43 @@
+-- Document 01, "Turned back because of the input" and "because of the state": each reason with its number and whether it applies.
+-- Assumes nothing.
+use mathlib.Core.Bool.{Bool, true, false, _||_, not}
+use mathlib.Core.List.{List, [], _∷_}
+use Prim.Native.Nat.{ℕ}
+use lib.Dec.{eqb, ltb}
+use Rattle.layout.specs.Parameters.{admits}
+use Rattle.coder.specs.State.{isClosed, isUnfit, placesIn}
+use Rattle.coder.specs.declared.Record.{Record}
+
+-- "Each refusal gives its number, place 0 except for 4": a reason's number, the place told with it, and whether it applies
+pub record Reason : Type 0 where
+  pub number : ℕ
+  pub place : ℕ
+  pub applies : Bool
+
+abbrev pub because : ℕ → Bool → Reason
+because n b = record { number = n; place = 0; applies = b }
+
+-- no reason: "An accepted call gives number 0"
+abbrev pub accepted : Reason
+accepted = because 0 false
+
+-- the first of the reasons that applies; each call lists its own in document 01's order: 7, 1, 21, 22, 2, 3, 4, 5, 6, 23
+unfoldable pub firstReason : List Reason → Reason
+firstReason [] = accepted
+firstReason (x ∷ xs) = elim (x .applies) [ true ↦ x | false ↦ firstReason xs ]
+
+-- "1. Parameters not admitted (opening, C calls, sheet)."
+abbrev pub notAdmitted : ℕ → ℕ → Reason
+notAdmitted t r = because 1 (not (admits t r))
+
+-- "5. A place outside 1 to n."
+abbrev pub outside : Record → ℕ → Reason
+outside rec p = because 5 (eqb p 0 || ltb (placesIn rec) p)
+
+-- "21. The record is closed."
+abbrev pub closed : Record → Reason
+closed rec = because 21 (isClosed rec)
+
+-- "22. The record has parameters that are not admitted, r = 0, or words that differ from the sum of the other counts as whole numbers."
+abbrev pub unfit : Record → Reason
+unfit rec = because 22 (isUnfit rec)

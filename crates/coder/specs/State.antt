@@ -1,0 +1,38 @@
+-- Document 01, "The record". Lengths and the layout are those of a record, so that callers need not know what fixes them.
+-- Assumes nothing.
+use mathlib.Core.Bool.{Bool, true, false, _&&_, _||_, not}
+use mathlib.Core.List.{List}
+use Prim.Native.Nat.{ℕ, zero, suc, _+_}
+use lib.Dec.{eqb}
+use Rattle.group.specs.Group.{number}
+use Rattle.layout.specs.Parameters.{admits, placesOf, messageOf, moduliFor}
+use Rattle.layout.specs.Layout as layout
+use Rattle.coder.specs.declared.Record.{Record}
+
+-- "Opening gives t, r (never 0) and four counts at 0: words, clean, mended binary, mended in pairs."
+abbrev pub fresh : ℕ → ℕ → Record
+fresh t r = record { t = t; r = r; words = 0; clean = 0; «corrected_binary» = 0; «corrected_pairs» = 0 }
+
+-- "The closed record has t = 0."
+abbrev pub isClosed : Record → Bool
+isClosed rec = eqb (rec .t) 0
+
+-- "The record has parameters that are not admitted, r = 0, or words that differ from the sum of the other counts as whole numbers."
+unfoldable pub isUnfit : Record → Bool
+isUnfit rec =
+    not (admits (rec .t) (rec .r))
+    || (eqb (rec .r) 0 || not (eqb (rec .words) (rec .clean + rec .«corrected_binary» + rec .«corrected_pairs»)))
+
+-- "A record is open and fit where neither 21 nor 22 below applies to it."
+abbrev pub isFit : Record → Bool
+isFit rec = not (isClosed rec) && not (isUnfit rec)
+
+-- n, the places of a message, and the number of the element of a place, for a record that is open and fit
+unfoldable pub placesIn : Record → ℕ
+placesIn rec = placesOf (rec .t)
+
+unfoldable pub messageIn : Record → ℕ
+messageIn rec = messageOf (rec .t)
+
+unfoldable pub elementIn : Record → ℕ → ℕ
+elementIn rec p = number (moduliFor (rec .t) (rec .r)) (layout.elementAt (moduliFor (rec .t) (rec .r)) p)
