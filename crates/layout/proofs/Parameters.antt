@@ -102,25 +102,33 @@ pub record Known (t r : ℕ) (s : Shape) : Type 0 where
   pub binary : s .binary ≡ placesOf r
   pub message : s .message ≡ messageOf t
 
+-- the shape of admitted parameters
+pub known-for : (t r : ℕ) (s : Shape) → s ≡ shapeFor t r → Admitted t r → Known t r s
+unfolding shapeFor
+known-for t r s e h = record {
+  admitted = h;
+  a = field (λ (x : Shape). x .a) ∙ open-gate (binaryOf t r);
+  b = field (λ (x : Shape). x .b) ∙ open-gate (quaternaryOf t r);
+  places = field (λ (x : Shape). x .places) ∙ open-gate (placesOf t);
+  binary = field (λ (x : Shape). x .binary) ∙ open-gate (placesOf r);
+  message = field (λ (x : Shape). x .message) ∙ open-gate (messageOf t)
+}
+  where
+    field : (f : Shape → ℕ) → f s ≡ f (shapeFor t r)
+    field f = ap f e
+
+    open-gate : (n : ℕ) → gate (admits t r) n ≡ n
+    open-gate n = ap (λ (b : Bool). gate b n) (admitted-admits t r h)
+
 -- a shape with a place is that of admitted parameters
 pub known : (t r : ℕ) (s : Shape) → s ≡ shapeFor t r → 0 < s .places → Known t r s
 unfolding shapeFor
 known t r s e h = go (admits t r) refl
   where
-    field : (f : Shape → ℕ) → f s ≡ f (shapeFor t r)
-    field f = ap f e
-
     go : (b : Bool) → admits t r ≡ b → Known t r s
-    go true y = record {
-      admitted = admits-admitted t r y;
-      a = field (λ (x : Shape). x .a) ∙ ap (λ (b : Bool). gate b (binaryOf t r)) y;
-      b = field (λ (x : Shape). x .b) ∙ ap (λ (b : Bool). gate b (quaternaryOf t r)) y;
-      places = field (λ (x : Shape). x .places) ∙ ap (λ (b : Bool). gate b (placesOf t)) y;
-      binary = field (λ (x : Shape). x .binary) ∙ ap (λ (b : Bool). gate b (placesOf r)) y;
-      message = field (λ (x : Shape). x .message) ∙ ap (λ (b : Bool). gate b (messageOf t)) y
-    }
+    go true y = known-for t r s e (admits-admitted t r y)
     go false y =
-        let z : s .places ≡ 0 = field (λ (x : Shape). x .places) ∙ ap (λ (b : Bool). gate b (placesOf t)) y in
+        let z : s .places ≡ 0 = ap (λ (x : Shape). x .places) e ∙ ap (λ (b : Bool). gate b (placesOf t)) y in
         absurd (omega arith)
 
 pub moduli-known : (t r : ℕ) (s : Shape) → Known t r s → moduli (s .a) (s .b) ≡ moduliFor t r

@@ -1,0 +1,2 @@
+-- The theorems of demand 1. Assumes nothing.
+use mathlib.Core.Path.{_≡_}

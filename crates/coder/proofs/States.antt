@@ -1,0 +1,77 @@
+-- What it is for a record to be open and fit, and how the reasons 21 and 22 come before any other. Assumes nothing.
+use mathlib.Core.Path.{_≡_, refl, sym, ap, _∙_}
+use mathlib.Core.Logic.{_≢_}
+use mathlib.Core.List.{List, [], _∷_, _++_}
+use mathlib.Core.Bool.{Bool, true, false, _&&_, _||_, not, true≢false, false≢true}
+use Prim.Native.Nat.{ℕ, zero, suc, _+_, _≤_, _<_}
+use native.Mathlib.Omega.{arith}
+use lib.Dec.{eqb}
+use borrow.Author.Tests.{eqb-true, eqb-false, eq-eqb, ne-eqb}
+use Rattle.layout.specs.Parameters.{Admitted, admits}
+use Rattle.layout.proofs.Parameters.{admits-admitted, admitted-admits}
+use Rattle.coder.specs.State.{isClosed, isUnfit, isFit}
+use Rattle.coder.specs.Reasons.{Reason, firstReason, closed, unfit}
+use Rattle.coder.specs.Calls.{stateReasons}
+use Rattle.coder.specs.declared.Record.{Record}
+use Rattle.coder.proofs.Firsts.{first-yes, first-no, first-end}
+
+-- ---- the first of 21 and 22, before further reasons
+abbrev at : Reason → ℕ
+at x = x .number
+
+pub state-number : (rec : Record) (rs : List Reason) → firstReason (stateReasons rec) .number ≢ 0
+    → firstReason (stateReasons rec ++ rs) ≡ firstReason (stateReasons rec)
+state-number rec rs h = go (isClosed rec) refl (isUnfit rec) refl
+  where
+    u : List Reason
+    u = unfit rec ∷ []
+
+    go : (a : Bool) → isClosed rec ≡ a → (b : Bool) → isUnfit rec ≡ b → firstReason (stateReasons rec ++ rs) ≡ firstReason (stateReasons rec)
+    go true x b y = first-yes (closed rec) (unfit rec ∷ rs) x ∙ sym (first-yes (closed rec) u x)
+    go false x true y =
+        first-no (closed rec) (unfit rec ∷ rs) x ∙ first-yes (unfit rec) rs y
+        ∙ sym (first-no (closed rec) u x ∙ first-yes (unfit rec) [] y)
+    go false x false y = absurd (h (ap at (first-no (closed rec) u x ∙ first-no (unfit rec) [] y ∙ first-end)))
+
+pub state-fit : (rec : Record) → firstReason (stateReasons rec) .number ≡ 0 → (isClosed rec ≡ false) × (isUnfit rec ≡ false)
+state-fit rec h = go (isClosed rec) refl (isUnfit rec) refl
+  where
+    u : List Reason
+    u = unfit rec ∷ []
+
+    go : (a : Bool) → isClosed rec ≡ a → (b : Bool) → isUnfit rec ≡ b → (isClosed rec ≡ false) × (isUnfit rec ≡ false)
+    go true x b y = let e : _≡_ {A = ℕ} 21 0 = sym (ap at (first-yes (closed rec) u x)) ∙ h in absurd (omega arith)
+    go false x true y = let e : _≡_ {A = ℕ} 22 0 = sym (ap at (first-no (closed rec) u x ∙ first-yes (unfit rec) [] y)) ∙ h in absurd (omega arith)
+    go false x false y = (x, y)
+
+pub state-past : (rec : Record) (rs : List Reason) → (isClosed rec ≡ false) × (isUnfit rec ≡ false) → firstReason (stateReasons rec ++ rs) ≡ firstReason rs
+state-past rec rs h = first-no (closed rec) (unfit rec ∷ rs) (h .0) ∙ first-no (unfit rec) rs (h .1)
+
+-- ---- what 21 and 22 say
+pub record Fit (rec : Record) : Type 0 where
+  pub admitted : Admitted (rec .t) (rec .r)
+  pub sums : rec .words ≡ rec .clean + rec .«corrected_binary» + rec .«corrected_pairs»
+
+pub fit-true : (rec : Record) → Fit rec → (isClosed rec ≡ false) × (isUnfit rec ≡ false)
+unfolding isUnfit
+fit-true rec h =
+    let a = h .admitted in
+    ( ne-eqb (rec .t) 0 (omega arith)
+    , rw (admitted-admits (rec .t) (rec .r) a, ne-eqb (rec .r) 0 (omega arith), eq-eqb (rec .words) (rec .clean + rec .«corrected_binary» + rec .«corrected_pairs») (h .sums))
+    )
+
+or-false : (a b : Bool) → (a || b) ≡ false → (a ≡ false) × (b ≡ false)
+or-false true b e = absurd (true≢false e)
+or-false false b e = (refl, e)
+
+not-back : (a : Bool) → not a ≡ false → a ≡ true
+not-back true e = refl
+not-back false e = absurd (true≢false e)
+
+pub true-fit : (rec : Record) → isUnfit rec ≡ false → Fit rec
+unfolding isUnfit
+true-fit rec h =
+    let s = rec .clean + rec .«corrected_binary» + rec .«corrected_pairs» in
+    let a = or-false (not (admits (rec .t) (rec .r))) (eqb (rec .r) 0 || not (eqb (rec .words) s)) h in
+    let b = or-false (eqb (rec .r) 0) (not (eqb (rec .words) s)) (a .1) in
+    record { admitted = admits-admitted (rec .t) (rec .r) (not-back _ (a .0)); sums = eqb-true (rec .words) s (not-back _ (b .1)) }
