@@ -44,6 +44,14 @@ unfolding elementAt
 element-by rec p n e =
     ap {B = ElementAnswer} (λ (k : ℕ). ifAccepted k (record { refusal = 0; place = 0; element = elementIn rec p }) (refusedElement k)) e
 
+pub element-refusal : (rec : Record) (p : ℕ) → elementAt rec p .refusal ≡ firstReason (stateReasons rec ++ (outside rec p ∷ [])) .number
+element-refusal rec p = go (firstReason (stateReasons rec ++ (outside rec p ∷ [])) .number) refl
+  where
+    go : (n : ℕ) → firstReason (stateReasons rec ++ (outside rec p ∷ [])) .number ≡ n
+        → elementAt rec p .refusal ≡ firstReason (stateReasons rec ++ (outside rec p ∷ [])) .number
+    go zero e = ap (λ (x : ElementAnswer). x .refusal) (element-by rec p 0 e) ∙ sym e
+    go (suc n) e = ap (λ (x : ElementAnswer). x .refusal) (element-by rec p (suc n) e) ∙ sym e
+
 pub element-state : (rec : Record) (p n : ℕ) → n ≡ firstReason (stateReasons rec) .number → n ≢ 0 → elementAt rec p ≡ refusedElement n
 element-state rec p zero e h = absurd (h refl)
 element-state rec p (suc n) e h =

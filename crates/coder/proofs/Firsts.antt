@@ -71,7 +71,7 @@ first-given (x ∷ xs) n h e = go (first-given xs n h) (x .applies) refl
       list = refl;
       none = tt;
       applies = y;
-      number = sym (ap (λ (x : Reason). x .number) (first-yes x xs y)) ∙ e
+      number = sym (ap (λ (x : Reason). x .number) (first-yes x xs y)) ∙ e;
     }
     go f false y =
         let g = f (sym (ap (λ (x : Reason). x .number) (first-no x xs y)) ∙ e) in
@@ -82,5 +82,5 @@ first-given (x ∷ xs) n h e = go (first-given xs n h) (x .applies) refl
           list = ap {B = List Reason} (λ r. x ∷ r) (g .list);
           none = (y, g .none);
           applies = g .applies;
-          number = g .number
+          number = g .number;
         }

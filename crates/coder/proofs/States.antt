@@ -55,9 +55,9 @@ pub record Fit (rec : Record) : Type 0 where
 pub fit-true : (rec : Record) → Fit rec → (isClosed rec ≡ false) × (isUnfit rec ≡ false)
 unfolding isUnfit
 fit-true rec h =
-    let a = h .admitted in
-    ( ne-eqb (rec .t) 0 (omega arith)
-    , rw (admitted-admits (rec .t) (rec .r) a, ne-eqb (rec .r) 0 (omega arith), eq-eqb (rec .words) (rec .clean + rec .«corrected_binary» + rec .«corrected_pairs») (h .sums))
+    let a = h .admitted in (
+      ne-eqb (rec .t) 0 (omega arith),
+      rw (admitted-admits (rec .t) (rec .r) a, ne-eqb (rec .r) 0 (omega arith), eq-eqb (rec .words) (rec .clean + rec .«corrected_binary» + rec .«corrected_pairs») (h .sums)),
     )
 
 or-false : (a b : Bool) → (a || b) ≡ false → (a ≡ false) × (b ≡ false)

@@ -54,9 +54,9 @@ zero-number ms zero l = ap allZero (element-zero ms) ∙ zeros-allZero ms ∙ sy
 zero-number ms (suc y) l =
     agree (allZero (element ms (suc y))) (eqb (suc y) 0)
     (λ t.
-      let z : element ms (suc y) ≡ zeros ms = allZero-zeros ms (element ms (suc y)) (valid-element ms (suc y)) t in
-      let n : suc y ≡ 0 = sym (number-element ms (suc y) l) ∙ ap (number ms) z ∙ number-zeros ms in
-      absurd (omega arith))
+    let z : element ms (suc y) ≡ zeros ms = allZero-zeros ms (element ms (suc y)) (valid-element ms (suc y)) t in
+    let n : suc y ≡ 0 = sym (number-element ms (suc y) l) ∙ ap (number ms) z ∙ number-zeros ms in
+    absurd (omega arith))
     (λ t. let n : suc y ≡ 0 = lib.Dec.eqb→eq (suc y) 0 (true-T (eqb (suc y) 0) t) in absurd (omega arith))
 
 first-only : (v : ℕ) → tally (λ y. hit (eqb y 0)) v ≡ hit (ltb 0 v)

@@ -75,9 +75,9 @@ order-two ms e h =
     agree (same (sum ms e e) (zeros ms)) (eqb (lead ms e) 0)
     (λ t. eq-eqb (lead ms e) 0 (own-even ms e h (sym (negative-unique ms e e h (same-eq (sum ms e e) (zeros ms) t)))))
     (λ t.
-      let o : negative ms e ≡ e = even-own ms e h (eqb→eq (lead ms e) 0 (true-T (eqb (lead ms e) 0) t)) in
-      let z : sum ms e e ≡ zeros ms = ap (sum ms e) (sym o) ∙ sum-negative ms e in
-      ap (λ (r : List ℕ). same r (zeros ms)) z ∙ same-refl (zeros ms))
+    let o : negative ms e ≡ e = even-own ms e h (eqb→eq (lead ms e) 0 (true-T (eqb (lead ms e) 0) t)) in
+    let z : sum ms e e ≡ zeros ms = ap (sum ms e) (sym o) ∙ sum-negative ms e in
+    ap (λ (r : List ℕ). same r (zeros ms)) z ∙ same-refl (zeros ms))
 
 valid-map : (ms : List Modulus) (ns : List ℕ) → All (Valid ms) (map (element ms) ns)
 valid-map ms [] = tt

@@ -56,15 +56,15 @@ at-pair ms j h =
     let q = places ms (map pair (pairs ms)) in
     let u = places ms (units ms) in
     let l = length-places-pairs ms (pairs ms) in
-    let p = pair-first ms (pairs ms) j h in
-    ( ap (λ r. getD r (length (singles ms) + 2 * j) (zeros ms)) (parts ms)
-    ∙ getD-append-add (singles ms) (q ++ u) (2 * j) (zeros ms)
-    ∙ List·getD-append q u (zeros ms) (2 * j) (omega arith)
-    ∙ p .0
-    , ap (λ r. getD r (length (singles ms) + suc (2 * j)) (zeros ms)) (parts ms)
-    ∙ getD-append-add (singles ms) (q ++ u) (suc (2 * j)) (zeros ms)
-    ∙ List·getD-append q u (zeros ms) (suc (2 * j)) (omega arith)
-    ∙ p .1
+    let p = pair-first ms (pairs ms) j h in (
+      ap (λ r. getD r (length (singles ms) + 2 * j) (zeros ms)) (parts ms)
+          ∙ getD-append-add (singles ms) (q ++ u) (2 * j) (zeros ms)
+          ∙ List·getD-append q u (zeros ms) (2 * j) (omega arith)
+          ∙ p .0,
+      ap (λ r. getD r (length (singles ms) + suc (2 * j)) (zeros ms)) (parts ms)
+          ∙ getD-append-add (singles ms) (q ++ u) (suc (2 * j)) (zeros ms)
+          ∙ List·getD-append q u (zeros ms) (suc (2 * j)) (omega arith)
+          ∙ p .1,
     )
 
 pub at-check : (ms : List Modulus) (i : ℕ)
@@ -200,23 +200,23 @@ unit-four (suc n) (suc a) (suc b) j h k =
     let i = unit-four n a (suc b) j h (omega arith) in
     let e : suc a + 2 * j ≡ suc (a + 2 * j) = omega arith in
     let f : suc a + suc (2 * j) ≡ suc (a + suc (2 * j)) = omega arith in
-    let g : suc a + j ≡ suc (a + j) = omega arith in
-    ( rw (e, g) (ap (λ r. getD r (suc (a + 2 * j)) (zeros (two ∷ ms))) (places-units two ms) ∙ later two ms (a + 2 * j) (a + j) 3 (i .0))
-    , rw (f, g) (ap (λ r. getD r (suc (a + suc (2 * j))) (zeros (two ∷ ms))) (places-units two ms) ∙ later two ms (a + suc (2 * j)) (a + j) 1 (i .1))
+    let g : suc a + j ≡ suc (a + j) = omega arith in (
+      rw (e, g) (ap (λ r. getD r (suc (a + 2 * j)) (zeros (two ∷ ms))) (places-units two ms) ∙ later two ms (a + 2 * j) (a + j) 3 (i .0)),
+      rw (f, g) (ap (λ r. getD r (suc (a + suc (2 * j))) (zeros (two ∷ ms))) (places-units two ms) ∙ later two ms (a + suc (2 * j)) (a + j) 1 (i .1)),
     )
 unit-four (suc n) zero (suc b) zero h k =
-    let ms = moduliOf n zero b in
-    ( ap (λ r. getD r 0 (zeros (four ∷ ms))) (places-units four ms) ∙ first-alone four ms 3
-    , ap (λ r. getD r 1 (zeros (four ∷ ms))) (places-units four ms) ∙ first-alone four ms 1
+    let ms = moduliOf n zero b in (
+      ap (λ r. getD r 0 (zeros (four ∷ ms))) (places-units four ms) ∙ first-alone four ms 3,
+      ap (λ r. getD r 1 (zeros (four ∷ ms))) (places-units four ms) ∙ first-alone four ms 1,
     )
 unit-four (suc n) zero (suc b) (suc j) h k =
     let ms = moduliOf n zero b in
     let i = unit-four n zero b j (omega arith) (omega arith) in
     let e : 0 + 2 * suc j ≡ suc (suc (0 + 2 * j)) = omega arith in
     let f : 0 + suc (2 * suc j) ≡ suc (suc (0 + suc (2 * j))) = omega arith in
-    let g : 0 + suc j ≡ suc (0 + j) = omega arith in
-    ( rw (e, g) (ap (λ r. getD r (suc (suc (0 + 2 * j))) (zeros (four ∷ ms))) (places-units four ms) ∙ later four ms (0 + 2 * j) (0 + j) 3 (i .0))
-    , rw (f, g) (ap (λ r. getD r (suc (suc (0 + suc (2 * j)))) (zeros (four ∷ ms))) (places-units four ms) ∙ later four ms (0 + suc (2 * j)) (0 + j) 1 (i .1))
+    let g : 0 + suc j ≡ suc (0 + j) = omega arith in (
+      rw (e, g) (ap (λ r. getD r (suc (suc (0 + 2 * j))) (zeros (four ∷ ms))) (places-units four ms) ∙ later four ms (0 + 2 * j) (0 + j) 3 (i .0)),
+      rw (f, g) (ap (λ r. getD r (suc (suc (0 + suc (2 * j)))) (zeros (four ∷ ms))) (places-units four ms) ∙ later four ms (0 + suc (2 * j)) (0 + j) 1 (i .1)),
     )
 
 pub check-two : (a b i : ℕ) → i < a → a + b ≤ 12

@@ -65,9 +65,9 @@ module _ (a b x y : ℕ) (l : Located a b x y) where
         let d = check-four a b j (k .1) r in
         let f : getD ms i one ≡ four = moduli-four a b i (omega (arith, o .1, length-moduli a b)) (k .0) (k .1) in
         let n : y + a + 2 * j + 2 ≡ suc (length (singles ms) + (2 * length (pairs ms) + (a + suc (2 * j)))) = omega arith in
-        let m : y + a + 2 * j + 2 - 1 ≡ suc (length (singles ms) + (2 * length (pairs ms) + (a + 2 * j))) = omega arith in
-        ( k .0
-        , k .1
-        , ap (elementAt ms) n ∙ at-check ms (a + suc (2 * j)) ∙ d .1 ∙ ap (λ (q : ℕ). alone ms q 1) c ∙ sym (o .0)
-        , ap (elementAt ms) m ∙ at-check ms (a + 2 * j) ∙ d .0 ∙ ap (λ (q : ℕ). alone ms q 3) c ∙ sym (negative-alone ms i (o .1) f) ∙ ap (negative ms) (sym (o .0))
+        let m : y + a + 2 * j + 2 - 1 ≡ suc (length (singles ms) + (2 * length (pairs ms) + (a + 2 * j))) = omega arith in (
+          k .0,
+          k .1,
+          ap (elementAt ms) n ∙ at-check ms (a + suc (2 * j)) ∙ d .1 ∙ ap (λ (q : ℕ). alone ms q 1) c ∙ sym (o .0),
+          ap (elementAt ms) m ∙ at-check ms (a + 2 * j) ∙ d .0 ∙ ap (λ (q : ℕ). alone ms q 3) c ∙ sym (negative-alone ms i (o .1) f) ∙ ap (negative ms) (sym (o .0)),
         )

@@ -33,18 +33,18 @@ admits-admitted t r e =
       most = leb-true t longest (b .0);
       binary = leb-true 2 r (c .0);
       within = leb-true r t (d .0);
-      twice = leb-true t (2 * r) (d .1)
+      twice = leb-true t (2 * r) (d .1);
     }
 
 pub admitted-admits : (t r : ℕ) → Admitted t r → admits t r ≡ true
 unfolding admits
 admitted-admits t r h =
-    rw
-    ( le-leb 2 t (h .least)
-    , le-leb t longest (h .most)
-    , le-leb 2 r (h .binary)
-    , le-leb r t (h .within)
-    , le-leb t (2 * r) (h .twice)
+    rw (
+      le-leb 2 t (h .least),
+      le-leb t longest (h .most),
+      le-leb 2 r (h .binary),
+      le-leb r t (h .within),
+      le-leb t (2 * r) (h .twice),
     )
 
 pub below-power : (t : ℕ) → t < 2 ^ t
@@ -111,7 +111,7 @@ known-for t r s e h = record {
   b = field (λ (x : Shape). x .b) ∙ open-gate (quaternaryOf t r);
   places = field (λ (x : Shape). x .places) ∙ open-gate (placesOf t);
   binary = field (λ (x : Shape). x .binary) ∙ open-gate (placesOf r);
-  message = field (λ (x : Shape). x .message) ∙ open-gate (messageOf t)
+  message = field (λ (x : Shape). x .message) ∙ open-gate (messageOf t);
 }
   where
     field : (f : Shape → ℕ) → f s ≡ f (shapeFor t r)
@@ -159,7 +159,7 @@ sizes-known t r s k =
       front = rw e (omega arith);
       room = omega arith;
       check = omega arith;
-      small = omega arith
+      small = omega arith;
     }
 
 -- zero is the same twelve bytes whatever the moduli

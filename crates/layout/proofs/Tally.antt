@@ -99,8 +99,8 @@ module _ (h : List ℕ → ℕ) (ms : List Modulus) where
       (λ y. (h (element (four ∷ ms) (0 + 4 * y)) + h (element (four ∷ ms) (1 + 4 * y))) + (h (element (four ∷ ms) (2 + 4 * y)) + h (element (four ∷ ms) (3 + 4 * y))))
       (λ y. (h (0 ∷ element ms y) + h (1 ∷ element ms y)) + (h (2 ∷ element ms y) + h (3 ∷ element ms y))) v
       (λ y l.
-        ap₂ _+_ (ap₂ _+_ (ap h (element-four ms 0 y (omega arith))) (ap h (element-four ms 1 y (omega arith))))
-        (ap₂ _+_ (ap h (element-four ms 2 y (omega arith))) (ap h (element-four ms 3 y (omega arith)))))
+      ap₂ _+_ (ap₂ _+_ (ap h (element-four ms 0 y (omega arith))) (ap h (element-four ms 1 y (omega arith))))
+      (ap₂ _+_ (ap h (element-four ms 2 y (omega arith))) (ap h (element-four ms 3 y (omega arith)))))
 
   abbrev pub rest : ℕ → ℕ → ℕ
   rest zero v = 0

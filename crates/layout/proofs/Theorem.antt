@@ -96,7 +96,7 @@ layout t r h =
       paired = o .1 ∙ ap (λ (k : ℕ). length (pairs ms) + k) (fours-for t r h) ∙ pairs-for t r h;
       front = length-message ms ∙ message-for t r h;
       good = good-slots ms;
-      once = numbers
+      once = numbers;
     }
   where
     numbers : (x : ℕ) → 0 < x → x ≤ placesOf t
@@ -108,10 +108,10 @@ layout t r h =
         let s = size-for t r h in
         let l : x < size ms = omega (arith, pow-pos t) in
         let n = number-element ms x l in
-        let f = one-place ms (element ms x) (valid-element ms x) (λ z. clash (sym n ∙ ap (number ms) z ∙ number-zeros ms)) in
-        ( f .0
-        , (f .1 .0, omega (arith, f .1 .1), ap (number ms) (f .1 .2) ∙ n)
-        , (λ q c e. f .2 q c (sym (element-number ms (elementAt ms q) (valid-at-place ms q)) ∙ ap (element ms) e))
+        let f = one-place ms (element ms x) (valid-element ms x) (λ z. clash (sym n ∙ ap (number ms) z ∙ number-zeros ms)) in (
+          f .0,
+          (f .1 .0, omega (arith, f .1 .1), ap (number ms) (f .1 .2) ∙ n),
+          (λ q c e. f .2 q c (sym (element-number ms (elementAt ms q) (valid-at-place ms q)) ∙ ap (element ms) e)),
         )
       where
         clash : x ≡ 0 → ⊥

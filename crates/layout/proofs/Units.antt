@@ -67,18 +67,18 @@ unit-kind a b e h t = go (decLt i a) (decLt (i - a) b)
     twelve = omega (arith, u .1, length-moduli a b)
 
     go : Dec (i < a) → Dec (i - a < b) → (lead ms e ≡ 0 → i < a) × (lead ms e ≡ 1 → (a ≤ i) × (i - a < b))
-    go (yes l) k =
-        ( (λ z. l)
-        , (λ z.
+    go (yes l) k = (
+      (λ z. l),
+      (λ z.
           let y : lead ms e ≡ 0 = ap (lead ms) (u .0) ∙ lead-two ms i (u .1) (moduli-two a b i twelve l) in
-          absurd (omega arith))
-        )
-    go (no n) (yes k) =
-        ( (λ z.
+          absurd (omega arith)),
+    )
+    go (no n) (yes k) = (
+      (λ z.
           let y : lead ms e ≡ 1 = ap (lead ms) (u .0) ∙ lead-four ms i (u .1) (moduli-four a b i twelve (omega arith) k) in
-          absurd (omega arith))
-        , (λ z. (omega arith, k))
-        )
+          absurd (omega arith)),
+      (λ z. (omega arith, k)),
+    )
     go (no n) (no k) =
         let y : getD ms i one ≡ one = moduli-one a b i (omega arith) (omega arith) in
         let w : 1 < 1 = subst (λ (m : Modulus). 1 < radix m) y (u .2) in

@@ -15,7 +15,7 @@ shapeFor t r =
       b = gate ok (quaternaryOf t r);
       places = gate ok (placesOf t);
       binary = gate ok (placesOf r);
-      message = gate ok (messageOf t)
+      message = gate ok (messageOf t);
     }
 
 -- the element of a place, and the place of an element: zero and 0 where t and r are not admitted, for then there are no places

@@ -42,7 +42,7 @@ stepTwo p s d =
       led = 2 * s .led + gate (eqb d 1) here;
       units = s .units + gate (eqb (signOf p) 0) (gate (ltb 0 (s .number)) 1) + gate (eqb d 1) (gate (s .unit) here);
       lead = s .lead;
-      unit = unitOr d (s .unit) (eqb (s .number) 0)
+      unit = unitOr d (s .unit) (eqb (s .number) 0);
     }
 
 unfoldable pub stepFour : Bool → Rank → ℕ → Rank
@@ -53,7 +53,7 @@ stepFour p s d =
       led = 2 * s .led + gate p (s .number) + gate (leb 1 d) here + gate (leb 2 d) (gate p 1) + gate (leb 3 d) here;
       units = s .units + gate p (gate (ltb 0 (s .number)) 1) + gate (leb 1 d) (gate (s .unit) here) + gate (leb 2 d) (gate p (gate (eqb (s .number) 0) 1));
       lead = oddOr d (s .lead);
-      unit = unitOr d (s .unit) (eqb (s .number) 0)
+      unit = unitOr d (s .unit) (eqb (s .number) 0);
     }
 
 abbrev pub stepOf : Modulus → Bool → Rank → ℕ → Rank

@@ -13,7 +13,6 @@ ghost use Rattle.layout.specs.Parameters.{admits};
 ghost use Rattle.layout.specs.Layout.{singles, pairs, units, places, elementAt};
 ghost use Rattle.layout.specs.Calls.{shapeFor, elementFor, placeFor};
 ghost use Rattle.layout.specs.Rank.{Located};
-
 use group::Element;
 
 // The largest t in use.

@@ -9,7 +9,6 @@ ghost use Rattle.group.specs.Group.{one, Valid, moduli, zeros, size};
 ghost use Rattle.group.specs.Sign.{oddOr, unitOr};
 ghost use Rattle.layout.specs.Gate.{gate};
 ghost use Rattle.layout.specs.Rank.{signOf, partOf, stepTwo, stepFour, stepOf, rankOf, Small, Member};
-
 use group::Element;
 
 // What the components read so far come to: their number, how many elements with a smaller number

@@ -15,18 +15,24 @@ use Rattle.coder.proofs.state.Reads as state-reads
 use Rattle.group.proofs.number_of.Reads as number-of-reads
 use Rattle.layout.proofs.element_at.Reads as element-at-reads
 use Rattle.layout.proofs.shape_of.Reads as shape-of-reads
+
 state-requires : tie.Need-state-requires
 state-requires c κs = search needs
+
 refused-element-requires : tie.Need-refused-element-requires
 refused-element-requires c κs = search needs
+
 returns : tie.Need-returns
 returns c =
     let q = c .before .before in
     c .refused-element .ensures ∙ sym (element-state _ _ _ (q .state .ensures) (c .before .if1 .taken))
+
 shape-of-requires : tie.Need-shape-of-requires
 shape-of-requires c κs = search needs
+
 refused-element-requires-2 : tie.Need-refused-element-requires-2
 refused-element-requires-2 c κs = search needs
+
 -- past the first test the record is open and fit
 past : (c : tie.Else1)
     → (isClosed (c .before .before .args .«record») ≡ false) × (isUnfit (c .before .before .args .«record») ≡ false)
@@ -37,8 +43,10 @@ returns-2 c =
     let q = c .before .before .before in
     let g = q .before .before .args in
     c .refused-element2 .ensures ∙ sym (element-outside (g .«record») (past q) (g .place) (inl (c .before .if2 .taken)))
+
 refused-element-requires-3 : tie.Need-refused-element-requires-3
 refused-element-requires-3 c κs = search needs
+
 returns-3 : tie.Need-returns-3
 returns-3 c =
     let h = c .before .before .before in
@@ -46,10 +54,13 @@ returns-3 c =
     let g = q .before .before .args in
     let n = shape-places (g .«record») (past q) (h .shape-of .result) (h .shape-of .ensures) in
     c .refused-element3 .ensures ∙ sym (element-outside (g .«record») (past q) (g .place) (inr (rw (← n) (c .before .if3 .taken))))
+
 element-at-requires : tie.Need-element-at-requires
 element-at-requires c κs = search needs
+
 number-of-requires : tie.Need-number-of-requires
 number-of-requires c κs = search needs
+
 returns-4 : tie.Need-returns-4
 returns-4 c =
     let h = c .before .before .before .before in

@@ -11,13 +11,16 @@ use Rattle.coder.proofs.state.Tie as tie
 use Rattle.coder.proofs.state.Reads as reads
 use Rattle.coder.proofs.state.Lts as lts
 use Rattle.coder.proofs.unfit.Reads as unfit-reads
+
 abbrev numberOf : Reason → ℕ
 numberOf x = x .number
 
 returns : tie.Need-returns
 returns c = sym (ap numberOf (first-yes (closed (c .before .args .«record»)) _ (eq-eqb _ _ (c .if1 .taken))))
+
 unfit-requires : tie.Need-unfit-requires
 unfit-requires c κs = search needs
+
 returns-2 : tie.Need-returns-2
 returns-2 c =
     let q = c .before .before in
@@ -25,6 +28,7 @@ returns-2 c =
     sym
     (ap numberOf
     (first-no (closed g) _ (ne-eqb _ _ (q .if1 .left)) ∙ first-yes (unfit g) [] (sym (c .before .unfit .ensures) ∙ c .if2 .taken)))
+
 returns-3 : tie.Need-returns-3
 returns-3 c =
     let q = c .before .before in

@@ -11,15 +11,19 @@ use Rattle.coder.proofs.word_length.Reads as reads
 use Rattle.coder.proofs.word_length.Lts as lts
 use Rattle.coder.proofs.state.Reads as state-reads
 use Rattle.layout.proofs.shape_of.Reads as shape-of-reads
+
 state-requires : tie.Need-state-requires
 state-requires c κs = search needs
+
 returns : tie.Need-returns
 unfolding wordLength
 returns c =
     let g = c .before .before .args .«record» in
     sym (unfit-length g (placesIn g) (c .before .state .result) (c .before .state .ensures) (c .if1 .taken))
+
 shape-of-requires : tie.Need-shape-of-requires
 shape-of-requires c κs = search needs
+
 returns-2 : tie.Need-returns-2
 unfolding wordLength
 returns-2 c =

@@ -78,10 +78,10 @@ place-of-valid-requires c κs =
     let k = sizes-known _ _ _ (past q) in
     let s = q .before .shape-of .result in
     let ms = moduli (s .a) (s .b) in
-    let e = q .before .before .args .e in
-    ( record { room = k .room; part = omega arith; front = sym (k .front); small = omega arith }
-    , numbered ms e (sym (matched m) ∙ c .before .if3 .taken)
-    , omega (arith, m .before .before .before .number-of .ensures)
+    let e = q .before .before .args .e in (
+      record { room = k .room; part = omega arith; front = sym (k .front); small = omega arith },
+      numbered ms e (sym (matched m) ∙ c .before .if3 .taken),
+      omega (arith, m .before .before .before .number-of .ensures),
     )
 
 returns-3 : tie.Need-returns-3

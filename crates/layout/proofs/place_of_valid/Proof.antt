@@ -88,10 +88,10 @@ second-place-requires-2 c κs =
     let s = r .before in
     let g = s .args in
     let ms = moduli (g .a) (g .b) in
-    rw (c .neg .ensures)
-    ( s .pre .0
-    , valid-negative ms (g .e)
-    , lead-minus ms (g .e) (s .pre .1) (λ z. c .before .before .if1 .left (told r .0 ∙ z)) (λ z. c .before .if3 .left (told r .0 ∙ z))
+    rw (c .neg .ensures) (
+      s .pre .0,
+      valid-negative ms (g .e),
+      lead-minus ms (g .e) (s .pre .1) (λ z. c .before .before .if1 .left (told r .0 ∙ z)) (λ z. c .before .if3 .left (told r .0 ∙ z)),
     )
 
 sub-result : tie.Need-sub-result

@@ -33,9 +33,9 @@ at-unit c =
     let u = sym (read-sign true ms (g .z) (c .before .before .read .result) (s .pre .1) (c .before .before .read .ensures) .1) ∙ c .before .if1 .taken in
     subst
     (λ (i : ℕ).
-      (g .a ≤ i) × (i - g .a < g .b)
-      × (elementAt ms (g .message + g .a + 2 * (i - g .a) + 2) ≡ g .z)
-      × (elementAt ms (g .message + g .a + 2 * (i - g .a) + 2 - 1) ≡ negative ms (g .z)))
+    (g .a ≤ i) × (i - g .a < g .b)
+    × (elementAt ms (g .message + g .a + 2 * (i - g .a) + 2) ≡ g .z)
+    × (elementAt ms (g .message + g .a + 2 * (i - g .a) + 2 - 1) ≡ negative ms (g .z)))
     (sym (c .first .ensures))
     (unit-pair-place (g .a) (g .b) (g .part) (g .message) (s .pre .0) (g .z) (s .pre .1) u (s .pre .2))
 

@@ -29,10 +29,10 @@ array-read-step c = search needs
 step-requires : tie.Need-step-requires Inv-loop μ-loop
 step-requires c κs =
     let g = c .before .before .args in
-    let v = c .before .before .pre in
-    ( subst Small (sym (c .before .loop .inv .1)) (small-rank (g .pairs) (g .a) (g .b) (c .before .loop .i) (g .t4) v)
-    , valid-digit (moduli (g .a) (g .b)) (g .t4) (c .before .loop .i - 1) v (omega (arith, length-moduli (g .a) (g .b)))
-    , omega arith
+    let v = c .before .before .pre in (
+      subst Small (sym (c .before .loop .inv .1)) (small-rank (g .pairs) (g .a) (g .b) (c .before .loop .i) (g .t4) v),
+      valid-digit (moduli (g .a) (g .b)) (g .t4) (c .before .loop .i - 1) v (omega (arith, length-moduli (g .a) (g .b))),
+      omega arith,
     )
 
 loop-less : tie.Need-loop-less Inv-loop μ-loop
@@ -41,10 +41,10 @@ loop-less c = search needs
 loop-again : tie.Need-loop-again Inv-loop μ-loop
 loop-again c =
     let l = c .before .before in
-    let g = l .before .args in
-    ( omega arith
-    , c .step .ensures
-    ∙ rw (l .loop .inv .1) (rank-step (g .pairs) (g .a) (g .b) (l .loop .i) (g .t4) (c .before .loop-test .taken) (l .loop .inv .0) (search needs))
+    let g = l .before .args in (
+      omega arith,
+      c .step .ensures
+          ∙ rw (l .loop .inv .1) (rank-step (g .pairs) (g .a) (g .b) (l .loop .i) (g .t4) (c .before .loop-test .taken) (l .loop .inv .0) (search needs)),
     )
 
 returns : tie.Need-returns Inv-loop μ-loop
