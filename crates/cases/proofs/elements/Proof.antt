@@ -9,18 +9,25 @@ Inv-loop code n p₀ p = p ≤ n
 
 abbrev μ-loop : tie.MeasureT-loop
 μ-loop code n p₀ p = n - p
+
 loop-holds : tie.Need-loop-holds Inv-loop μ-loop
 loop-holds c = search needs
+
 add-p : tie.Need-add-p Inv-loop μ-loop
 add-p c = search needs
+
 element-at-requires : tie.Need-element-at-requires Inv-loop μ-loop
 element-at-requires c κs = search needs
+
 number-requires : tie.Need-number-requires Inv-loop μ-loop
 number-requires c κs = search needs
+
 loop-less : tie.Need-loop-less Inv-loop μ-loop
 loop-less c = search needs
+
 loop-again : tie.Need-loop-again Inv-loop μ-loop
 loop-again c = search needs
+
 returns : tie.Need-returns Inv-loop μ-loop
 returns c = search needs
 

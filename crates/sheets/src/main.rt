@@ -1,0 +1,71 @@
+// Sheets for lines good and bad, one after the other: document 01's form of the input, executed.
+fn show(line: &[u8]) {
+    let mut text = io::large_buffer();
+    let n = listing::sheet(line, &mut text);
+    if n <= text.len() {
+        io::write_all(1, &text[..n]);
+    }
+}
+
+// A buffer too short for the text gets as much of it as fits, and the length is told all the same.
+fn short() {
+    let mut text = [46u8; 16];
+    let n = listing::sheet(b"3 2\n", &mut text);
+    io::write_all(1, &text);
+    io::write_all(1, b"..\n");
+    io::print_decimal(1, n as u64);
+    io::write_all(1, b"\n");
+}
+
+// A longer buffer keeps its further bytes.
+fn long() {
+    let mut text = [46u8; 16];
+    listing::sheet(b"1 1\n", &mut text);
+    io::write_all(1, &text);
+    io::write_all(1, b"\n");
+}
+
+fn good() {
+    show(b"2 2\n");
+    show(b"0003 02\n");
+    show(b"2 0\n");
+    show(b"4 0\n");
+    show(b"0002 0000\n");
+}
+
+fn not_admitted() {
+    show(b"0 0\n");
+    show(b"1 1\n");
+    show(b"5 2\n");
+    show(b"11 0\n");
+    show(b"9999 9999\n");
+}
+
+fn malformed() {
+    show(b"");
+    show(b"\n");
+    show(b"3\n");
+    show(b"3 2");
+    show(b"3 \n");
+    show(b" 3 2\n");
+    show(b"3  2\n");
+    show(b"3\t2\n");
+    show(b"3 2 \n");
+    show(b"3 2\r\n");
+    show(b"3 2\n\n");
+    show(b"3 2\nx");
+    show(b"00003 2\n");
+    show(b"3 00002\n");
+    show(b"+3 2\n");
+    show(b"3 -2\n");
+    show(b"3,2\n");
+    show(b"three 2\n");
+}
+
+fn main() {
+    good();
+    not_admitted();
+    malformed();
+    short();
+    long();
+}
