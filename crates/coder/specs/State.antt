@@ -9,7 +9,8 @@ use Rattle.layout.specs.Parameters.{admits, placesOf, messageOf, moduliFor}
 use Rattle.layout.specs.Layout as layout
 use Rattle.coder.specs.declared.Record.{Record}
 
--- "Opening gives t, r (never 0) and four counts at 0: words, clean, mended binary, mended in pairs."
+-- "Opening gives t, r (never 0) and four counts at 0: words, clean, mended binary, mended in pairs" (document 01): what it calls mended is
+-- here corrected
 abbrev pub fresh : ℕ → ℕ → Record
 fresh t r = record { t = t; r = r; words = 0; clean = 0; «corrected_binary» = 0; «corrected_pairs» = 0 }
 

@@ -6,8 +6,8 @@ ghost use Rattle.coder.specs.State.{fresh, isUnfit};
 ghost use Rattle.coder.specs.Reasons.{firstReason};
 ghost use Rattle.coder.specs.Calls.{inForce, stateReasons, refusedElement, opened, elementAt, wordLength, messageLength};
 
-// Which code it is, and how many words were corrected. Document 01's names for the counts after
-// `words` are "clean", "mended binary" and "mended in pairs".
+// Which code it is, and how many words were corrected. The last two counts are "mended binary" and
+// "mended in pairs" in document 01.
 pub struct Record {
     pub t: u32,
     pub r: u32,
@@ -78,10 +78,7 @@ pub fn element_at(record: Record, place: u32) -> ElementAnswer
 pub fn word_length(record: Record) -> u32
     ensures { λ x. ⌜ x ≡ wordLength «record» ⌝ }
 {
-    if state(record) != 0 {
-        return 0;
-    }
-    let s = layout::shape_of(record.t, record.r);
+    let s = lengths(record);
     s.places
 }
 
@@ -89,11 +86,20 @@ pub fn word_length(record: Record) -> u32
 pub fn message_length(record: Record) -> u32
     ensures { λ x. ⌜ x ≡ messageLength «record» ⌝ }
 {
-    if state(record) != 0 {
-        return 0;
-    }
-    let s = layout::shape_of(record.t, record.r);
+    let s = lengths(record);
     s.message
+}
+
+// The lengths of an open and fit record; no parameters have t = 0, so that any other has none.
+fn lengths(record: Record) -> layout::Shape
+    ensures { λ x. ⌜ (x .places ≡ wordLength «record») × (x .message ≡ messageLength «record») ⌝ }
+{
+    let t = record.t;
+    let r = record.r;
+    if state(record) == 0 {
+        return layout::shape_of(t, r);
+    }
+    layout::shape_of(0, 0)
 }
 
 // The r that opening takes.

@@ -16,7 +16,7 @@ use Rattle.group.proofs.Signs.{lead-zeros, allZero-zeros, zeros-allZero, agree,
 use Rattle.layout.specs.Gate.{gate, hit}
 use Rattle.layout.specs.Rank.{signOf, start, stepTwo, stepFour, stepOf, rankOf}
 use Rattle.layout.specs.declared.rank.Rank.{Rank}
-use Rattle.layout.proofs.Tally.{tally, tally-ext, tally-add, tally-gate, tally-ones, below, below-one, below-two, below-four, rest}
+use Rattle.layout.proofs.Sums.{sumTo, sumTo-ext, sumTo-add, sumTo-gate, sumTo-ones, below, below-one, below-two, below-four, rest}
 use Rattle.layout.proofs.Cover.{ofSign}
 
 -- of the elements with a number below x: those with the sign of the part, and those of them that are units
@@ -39,8 +39,8 @@ split false false = refl
 pub members-units : (p : Bool) (ms : List Modulus) (x : ℕ) → members p ms x + unitsLed p ms x ≡ led p ms x
 members-units p ms x =
     sym
-    (tally-add (λ y. hit (ofSign (signOf p) ms (element ms y))) (λ y. gate (isUnit (element ms y)) (hit (eqb (lead ms (element ms y)) (signOf p)))) x)
-    ∙ tally-ext
+    (sumTo-add (λ y. hit (ofSign (signOf p) ms (element ms y))) (λ y. gate (isUnit (element ms y)) (hit (eqb (lead ms (element ms y)) (signOf p)))) x)
+    ∙ sumTo-ext
     (λ y. hit (ofSign (signOf p) ms (element ms y)) + gate (isUnit (element ms y)) (hit (eqb (lead ms (element ms y)) (signOf p))))
     (λ y. hit (eqb (lead ms (element ms y)) (signOf p))) x
     (λ y l. split (eqb (lead ms (element ms y)) (signOf p)) (isUnit (element ms y)))
@@ -59,8 +59,8 @@ zero-number ms (suc y) l =
     absurd (omega arith))
     (λ t. let n : suc y ≡ 0 = lib.Dec.eqb→eq (suc y) 0 (true-T (eqb (suc y) 0) t) in absurd (omega arith))
 
-first-only : (v : ℕ) → tally (λ y. hit (eqb y 0)) v ≡ hit (ltb 0 v)
-unfolding tally
+first-only : (v : ℕ) → sumTo (λ y. hit (eqb y 0)) v ≡ hit (ltb 0 v)
+unfolding sumTo
 first-only zero = sym (ap hit (le-ltb 0 0 (omega arith)))
 first-only (suc zero) = refl
 first-only (suc (suc v)) =
@@ -70,7 +70,7 @@ first-only (suc (suc v)) =
 
 zero-below : (ms : List Modulus) (v : ℕ) → v ≤ size ms → below (λ e. hit (allZero e)) ms v ≡ hit (ltb 0 v)
 zero-below ms v l =
-    tally-ext (λ y. hit (allZero (element ms y))) (λ y. hit (eqb y 0)) v (λ y k. ap hit (zero-number ms y (omega arith))) ∙ first-only v
+    sumTo-ext (λ y. hit (allZero (element ms y))) (λ y. hit (eqb y 0)) v (λ y k. ap hit (zero-number ms y (omega arith))) ∙ first-only v
 
 -- zero has the sign 0
 zero-sign : (p : Bool) (ms : List Modulus) (e : List ℕ) → Valid ms e
@@ -103,7 +103,7 @@ module _ (p : Bool) (ms : List Modulus) where
   led-two d v l = below-two (λ e. hit (eqb (lead (two ∷ ms) e) (signOf p))) ms d v l ∙ go d l
     where
       twice : below (λ e. has e + has e) ms v ≡ 2 * led p ms v
-      twice = tally-add (λ y. has (element ms y)) (λ y. has (element ms y)) v ∙ omega arith
+      twice = sumTo-add (λ y. has (element ms y)) (λ y. has (element ms y)) v ∙ omega arith
 
       go : (d : ℕ) → d < 2
           → below (λ e. has e + has e) ms v + rest (λ e. hit (eqb (lead (two ∷ ms) e) (signOf p))) ms d v ≡ 2 * led p ms v + gate (eqb d 1) (has (element ms v))
@@ -127,10 +127,10 @@ module _ (p : Bool) (ms : List Modulus) where
       blocks : below each ms v ≡ 2 * led p ms v + gate p v
       blocks =
           let f : ℕ → ℕ = λ y. has (element ms y) in
-          let a = tally-ext (λ y. each (element ms y)) (λ y. f y + (f y + gate p 1)) v (λ y k. omega (arith, plain p .0, plain p .1)) in
-          let b = tally-add f (λ y. f y + gate p 1) v in
-          let c = tally-add f (λ y. gate p 1) v in
-          let d = tally-gate p (λ y. 1) v ∙ ap (gate p) (tally-ones v) in
+          let a = sumTo-ext (λ y. each (element ms y)) (λ y. f y + (f y + gate p 1)) v (λ y k. omega (arith, plain p .0, plain p .1)) in
+          let b = sumTo-add f (λ y. f y + gate p 1) v in
+          let c = sumTo-add f (λ y. gate p 1) v in
+          let d = sumTo-gate p (λ y. 1) v ∙ ap (gate p) (sumTo-ones v) in
           omega arith
 
       go : (d : ℕ) → d < 4
@@ -157,11 +157,11 @@ module _ (p : Bool) (ms : List Modulus) where
 
       blocks : below each ms v ≡ unitsLed p ms v + gate (eqb (signOf p) 0) (hit (ltb 0 v))
       blocks =
-          tally-add (λ y. hasUnit (element ms y)) (λ y. gate (allZero (element ms y)) (has (element ms y))) v
+          sumTo-add (λ y. hasUnit (element ms y)) (λ y. gate (allZero (element ms y)) (has (element ms y))) v
           ∙ ap (λ (n : ℕ). unitsLed p ms v + n)
-          (tally-ext (λ y. gate (allZero (element ms y)) (has (element ms y))) (λ y. gate (eqb (signOf p) 0) (hit (allZero (element ms y)))) v
+          (sumTo-ext (λ y. gate (allZero (element ms y)) (has (element ms y))) (λ y. gate (eqb (signOf p) 0) (hit (allZero (element ms y)))) v
           (λ y j. zero-sign p ms (element ms y) (valid-element ms y))
-          ∙ tally-gate (eqb (signOf p) 0) (λ y. hit (allZero (element ms y))) v
+          ∙ sumTo-gate (eqb (signOf p) 0) (λ y. hit (allZero (element ms y))) v
           ∙ ap (gate (eqb (signOf p) 0)) (zero-below ms v k))
 
       go : (d : ℕ) → d < 2
@@ -192,11 +192,11 @@ module _ (p : Bool) (ms : List Modulus) where
 
       blocks : below each ms v ≡ unitsLed p ms v + gate p (hit (ltb 0 v))
       blocks =
-          tally-ext (λ y. each (element ms y)) (λ y. hasUnit (element ms y) + gate p (hit (allZero (element ms y)))) v
+          sumTo-ext (λ y. each (element ms y)) (λ y. hasUnit (element ms y) + gate p (hit (allZero (element ms y)))) v
           (λ y j. omega (arith, plain p (element ms y)))
-          ∙ tally-add (λ y. hasUnit (element ms y)) (λ y. gate p (hit (allZero (element ms y)))) v
+          ∙ sumTo-add (λ y. hasUnit (element ms y)) (λ y. gate p (hit (allZero (element ms y)))) v
           ∙ ap (λ (n : ℕ). unitsLed p ms v + n)
-          (tally-gate p (λ y. hit (allZero (element ms y))) v ∙ ap (gate p) (zero-below ms v k))
+          (sumTo-gate p (λ y. hit (allZero (element ms y))) v ∙ ap (gate p) (zero-below ms v k))
 
       go : (d : ℕ) → d < 4
           → below each ms v + rest (λ e. gate (isUnit e) (hit (eqb (lead (four ∷ ms) e) (signOf p)))) ms d v
@@ -279,7 +279,7 @@ module _ (p : Bool) (ms : List Modulus) (e : List ℕ) (h : Valid ms e) where
   step-one (suc x) l = absurd (omega arith)
 
 pub rank-right : (p : Bool) (ms : List Modulus) (e : List ℕ) → Valid ms e → rankOf p ms e ≡ rankRight p ms e
-unfolding rankOf number lead isUnit tally
+unfolding rankOf number lead isUnit sumTo
 rank-right p [] [] h = refl
 rank-right p [] (x ∷ e) h = absurd h
 rank-right p (m ∷ ms) [] h = absurd h

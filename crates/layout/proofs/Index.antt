@@ -18,7 +18,7 @@ use Rattle.layout.specs.Gate.{gate, hit}
 use Rattle.layout.specs.Rank.{signOf, partOf, Member}
 use Rattle.layout.proofs.Lists.{count, keep-yes, keep-append, length-keep, length-from, from-append}
 use Rattle.layout.proofs.Cover.{ofSign, singles-signs, places-append, places-singles, unitPlaces, places-units}
-use Rattle.layout.proofs.Tally.{tally, below}
+use Rattle.layout.proofs.Sums.{sumTo, below}
 use Rattle.layout.proofs.Below.{members}
 use Rattle.layout.proofs.Sizes.{count-run, members-first, count-elements, length-places-pairs}
 
@@ -122,7 +122,7 @@ member-at p ms x i h k t e =
 pub member-found : (p : Bool) (ms : List Modulus) (x i : ℕ) → x < size ms
     → members p ms x ≤ hit (not p) + i → hit (not p) + i < members p ms (x + 1)
     → getD (partOf p ms) i (zeros ms) ≡ element ms x
-unfolding tally
+unfolding sumTo
 member-found p ms zero i k lo hi = absurd (omega (arith, members-first p ms))
 member-found p ms (suc x) i k lo hi = go (ofSign (signOf p) ms (element ms (suc x))) refl
   where
@@ -134,7 +134,7 @@ member-found p ms (suc x) i k lo hi = go (ofSign (signOf p) ms (element ms (suc 
     go false t = let h = ap hit t in absurd (omega (arith, more))
 
 pub members-none : (p : Bool) (ms : List Modulus) → members p ms 0 ≡ 0
-unfolding tally
+unfolding sumTo
 members-none p ms = refl
 
 members-mono : (p : Bool) (ms : List Modulus) (x y : ℕ) → x ≤ y → members p ms x ≤ members p ms y
@@ -145,7 +145,7 @@ members-mono p ms x y h =
 -- a member, and how many have a smaller number: at least zero, where it counts
 pub position-of : (p : Bool) (ms : List Modulus) (e : List ℕ) (n : ℕ) → Member p ms e → n ≡ members p ms (number ms e)
     → (hit (not p) ≤ n) × (n - hit (not p) < length (partOf p ms)) × (getD (partOf p ms) (n - hit (not p)) (zeros ms) ≡ e)
-unfolding tally
+unfolding sumTo
 position-of p ms e n m h =
     let x = number ms e in
     let l = number-lt ms e in

@@ -1,7 +1,7 @@
--- Lists: counting and filters. Cover: every element stands once. Tally and Below: how many elements of a sign have a smaller number.
+-- Lists: counting and filters. Cover: every element stands once. Sums and Below: how many elements of a sign have a smaller number.
 pub mod Lists
 pub mod Cover
-pub mod Tally
+pub mod Sums
 pub mod Below
 pub mod Sizes
 pub mod Places

@@ -18,7 +18,7 @@ use Rattle.group.proofs.Fill.{length-moduli, radix-small, number-drop-lt}
 use Rattle.layout.specs.Gate.{gate, hit}
 use Rattle.layout.specs.Rank.{signOf, start, stepOf, rankOf, Small, Member}
 use Rattle.layout.specs.declared.rank.Rank.{Rank}
-use Rattle.layout.proofs.Tally.{tally}
+use Rattle.layout.proofs.Sums.{sumTo}
 use Rattle.layout.proofs.Below.{led, unitsLed, members, members-units, rankRight, rank-right, units-led}
 use Rattle.layout.proofs.Cover.{ofSign}
 
@@ -49,17 +49,17 @@ valid-at (m ∷ ms) (y ∷ x) (suc i) h l = valid-at ms x i (h .1) (omega arith)
 pub valid-digit : (ms : List Modulus) (x : List ℕ) (i : ℕ) → Valid ms x → i < length ms → getD x i 0 < 4
 valid-digit ms x i h l = omega (arith, valid-at ms x i h l, radix-small (getD ms i one) .1)
 
-tally-le : (q : ℕ → Bool) (n : ℕ) → tally (λ y. hit (q y)) n ≤ n
-unfolding tally
-tally-le q zero = omega arith
-tally-le q (suc n) = let i = tally-le q n in omega (arith, hit-le (q n))
+sumTo-le : (q : ℕ → Bool) (n : ℕ) → sumTo (λ y. hit (q y)) n ≤ n
+unfolding sumTo
+sumTo-le q zero = omega arith
+sumTo-le q (suc n) = let i = sumTo-le q n in omega (arith, hit-le (q n))
   where
     hit-le : (b : Bool) → hit b ≤ 1
     hit-le true = omega arith
     hit-le false = omega arith
 
 pub members-le : (p : Bool) (ms : List Modulus) (x : ℕ) → members p ms x ≤ x
-members-le p ms x = tally-le (λ y. ofSign (signOf p) ms (element ms y)) x
+members-le p ms x = sumTo-le (λ y. ofSign (signOf p) ms (element ms y)) x
 
 -- what is read of an element says how many members of the part have a smaller number
 pub below-count : (p : Bool) (ms : List Modulus) (x : List ℕ) → Valid ms x
@@ -79,7 +79,7 @@ small-rank p a b i x h =
     let ms = drop i (moduli a b) in
     let e = drop i x in
     let n = number-drop-lt a b i e in
-    let l = tally-le (λ y. eqb (lead ms (element ms y)) (signOf p)) (number ms e) in
+    let l = sumTo-le (λ y. eqb (lead ms (element ms y)) (signOf p)) (number ms e) in
     let u = units-led p ms (number ms e) in
     subst Small (sym (rank-right p ms e (valid-drop (moduli a b) x i h))) (record { number = n; led = omega arith; units = omega arith })
 

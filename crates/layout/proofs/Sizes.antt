@@ -17,7 +17,7 @@ use Rattle.layout.specs.Gate.{gate, hit}
 use Rattle.layout.specs.Rank.{signOf}
 use Rattle.layout.proofs.Lists.{count, length-keep}
 use Rattle.layout.proofs.Cover.{ofSign, singles-signs, places-append, places-singles, unitPlaces, places-units}
-use Rattle.layout.proofs.Tally.{tally, below}
+use Rattle.layout.proofs.Sums.{sumTo, below}
 use Rattle.layout.proofs.Below.{led, unitsLed, members, members-units, led-one, led-two, led-four, units-one, units-two, units-four}
 
 -- the components modulo 2, those modulo 4, and the elements that are their own negatives
@@ -53,7 +53,7 @@ unfolding size
 size-four ms = omega arith
 
 led-evens : (ms : List Modulus) → led false ms (size ms) ≡ halves ms
-unfolding size tally lead element
+unfolding size sumTo lead element
 led-evens [] = refl
 led-evens (one ∷ ms) = ap (led false (one ∷ ms)) (size-one ms) ∙ led-one false ms (size ms) ∙ led-evens ms
 led-evens (two ∷ ms) =
@@ -64,7 +64,7 @@ led-evens (four ∷ ms) =
     ap (led false (four ∷ ms)) (size-four ms) ∙ led-four false ms 0 (size ms) (omega arith) ∙ omega arith
 
 led-plus : (ms : List Modulus) → 2 * led true ms (size ms) + halves ms ≡ size ms
-unfolding size tally lead element
+unfolding size sumTo lead element
 led-plus [] = refl
 led-plus (one ∷ ms) =
     let i = led-plus ms in
@@ -88,7 +88,7 @@ unitsOf true ms = fours ms
 unitsOf false ms = twos ms
 
 units-all : (p : Bool) (ms : List Modulus) → unitsLed p ms (size ms) ≡ unitsOf p ms
-unfolding size tally isUnit lead element
+unfolding size sumTo isUnit lead element
 units-all true [] = refl
 units-all false [] = refl
 units-all true (one ∷ ms) = ap (unitsLed true (one ∷ ms)) (size-one ms) ∙ units-one true ms (size ms) ∙ units-all true ms
@@ -111,7 +111,7 @@ units-all false (four ∷ ms) =
 -- ---- a count over a run of numbers
 pub count-run : (q : List ℕ → Bool) (ms : List Modulus) (k a : ℕ)
     → below (λ e. hit (q e)) ms a + count q (map (element ms) (from a k)) ≡ below (λ e. hit (q e)) ms (a + k)
-unfolding count from tally
+unfolding count from sumTo
 count-run q ms zero a = let x : a + 0 ≡ a = omega arith in rw x (omega arith)
 count-run q ms (suc k) a =
     let i = count-run q ms k (suc a) in
@@ -120,7 +120,7 @@ count-run q ms (suc k) a =
 
 -- zero counts with the singles
 pub members-first : (p : Bool) (ms : List Modulus) → members p ms 1 ≡ hit (not p)
-unfolding tally
+unfolding sumTo
 members-first true ms = rw (element-zero, lead-zeros)
 members-first false ms = rw (element-zero, lead-zeros, zeros-unit)
 

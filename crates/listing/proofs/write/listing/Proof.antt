@@ -3,7 +3,7 @@ use borrow.Author.Needs.{needs}
 use mathlib.Core.Path.{ap}
 use Prim.Native.Nat.{ℕ}
 use native.Mathlib.Omega.{arith}
-use Rattle.coder.proofs.Lengths.{word-length-bound}
+use Rattle.coder.proofs.Bounds.{word-length-bound}
 use Rattle.listing.specs.Sheet.{placeLines, listingText}
 use Rattle.listing.proofs.Lengths.{puts-heading}
 use Rattle.listing.proofs.Putting.{joined, renamed}

@@ -7,48 +7,48 @@ use native.Mathlib.Omega.{arith}
 use Rattle.group.specs.Group.{Modulus, one, two, four, element}
 use Rattle.layout.specs.Gate.{gate, hit}
 
-unfoldable pub tally : (ℕ → ℕ) → ℕ → ℕ
-tally f zero = 0
-tally f (suc n) = tally f n + f n
+unfoldable pub sumTo : (ℕ → ℕ) → ℕ → ℕ
+sumTo f zero = 0
+sumTo f (suc n) = sumTo f n + f n
 
-pub tally-ext : (f g : ℕ → ℕ) (n : ℕ) → ((y : ℕ) → y < n → f y ≡ g y) → tally f n ≡ tally g n
-unfolding tally
-tally-ext f g zero h = refl
-tally-ext f g (suc n) h = ap₂ _+_ (tally-ext f g n (λ y l. h y (omega arith))) (h n (omega arith))
+pub sumTo-ext : (f g : ℕ → ℕ) (n : ℕ) → ((y : ℕ) → y < n → f y ≡ g y) → sumTo f n ≡ sumTo g n
+unfolding sumTo
+sumTo-ext f g zero h = refl
+sumTo-ext f g (suc n) h = ap₂ _+_ (sumTo-ext f g n (λ y l. h y (omega arith))) (h n (omega arith))
 
-pub tally-add : (f g : ℕ → ℕ) (n : ℕ) → tally (λ y. f y + g y) n ≡ tally f n + tally g n
-unfolding tally
-tally-add f g zero = refl
-tally-add f g (suc n) = let i = tally-add f g n in omega arith
+pub sumTo-add : (f g : ℕ → ℕ) (n : ℕ) → sumTo (λ y. f y + g y) n ≡ sumTo f n + sumTo g n
+unfolding sumTo
+sumTo-add f g zero = refl
+sumTo-add f g (suc n) = let i = sumTo-add f g n in omega arith
 
-pub tally-ones : (n : ℕ) → tally (λ y. 1) n ≡ n
-unfolding tally
-tally-ones zero = refl
-tally-ones (suc n) = let i = tally-ones n in omega arith
+pub sumTo-ones : (n : ℕ) → sumTo (λ y. 1) n ≡ n
+unfolding sumTo
+sumTo-ones zero = refl
+sumTo-ones (suc n) = let i = sumTo-ones n in omega arith
 
 -- a test that does not depend on the number
-pub tally-gate : (b : Bool) (f : ℕ → ℕ) (n : ℕ) → tally (λ y. gate b (f y)) n ≡ gate b (tally f n)
-unfolding tally
-tally-gate true f n = refl
-tally-gate false f zero = refl
-tally-gate false f (suc n) = let i = tally-gate false f n in omega arith
+pub sumTo-gate : (b : Bool) (f : ℕ → ℕ) (n : ℕ) → sumTo (λ y. gate b (f y)) n ≡ gate b (sumTo f n)
+unfolding sumTo
+sumTo-gate true f n = refl
+sumTo-gate false f zero = refl
+sumTo-gate false f (suc n) = let i = sumTo-gate false f n in omega arith
 
 -- ---- blocks of two and of four
-tally-two : (f : ℕ → ℕ) (n : ℕ) → tally f (2 * n) ≡ tally (λ y. f (0 + 2 * y) + f (1 + 2 * y)) n
-unfolding tally
-tally-two f zero = refl
-tally-two f (suc n) =
-    let i = tally-two f n in
+sumTo-two : (f : ℕ → ℕ) (n : ℕ) → sumTo f (2 * n) ≡ sumTo (λ y. f (0 + 2 * y) + f (1 + 2 * y)) n
+unfolding sumTo
+sumTo-two f zero = refl
+sumTo-two f (suc n) =
+    let i = sumTo-two f n in
     let e : 2 * suc n ≡ suc (suc (2 * n)) = omega arith in
     let a : 0 + 2 * n ≡ 2 * n = omega arith in
     let b : 1 + 2 * n ≡ suc (2 * n) = omega arith in
     rw (e, a, b) (omega arith)
 
-tally-four : (f : ℕ → ℕ) (n : ℕ) → tally f (4 * n) ≡ tally (λ y. (f (0 + 4 * y) + f (1 + 4 * y)) + (f (2 + 4 * y) + f (3 + 4 * y))) n
-unfolding tally
-tally-four f zero = refl
-tally-four f (suc n) =
-    let i = tally-four f n in
+sumTo-four : (f : ℕ → ℕ) (n : ℕ) → sumTo f (4 * n) ≡ sumTo (λ y. (f (0 + 4 * y) + f (1 + 4 * y)) + (f (2 + 4 * y) + f (3 + 4 * y))) n
+unfolding sumTo
+sumTo-four f zero = refl
+sumTo-four f (suc n) =
+    let i = sumTo-four f n in
     let e : 4 * suc n ≡ suc (suc (suc (suc (4 * n)))) = omega arith in
     let a : 0 + 4 * n ≡ 4 * n = omega arith in
     let b : 1 + 4 * n ≡ suc (4 * n) = omega arith in
@@ -58,7 +58,7 @@ tally-four f (suc n) =
 
 -- ---- the same over elements: what a function of the element comes to over the numbers below x
 abbrev pub below : (List ℕ → ℕ) → List Modulus → ℕ → ℕ
-below h ms x = tally (λ y. h (element ms y)) x
+below h ms x = sumTo (λ y. h (element ms y)) x
 
 element-one : (ms : List Modulus) (y : ℕ) → element (one ∷ ms) y ≡ 0 ∷ element ms y
 unfolding element
@@ -83,19 +83,19 @@ element-four ms d y l =
 
 module _ (h : List ℕ → ℕ) (ms : List Modulus) where
   pub below-one : (x : ℕ) → below h (one ∷ ms) x ≡ below (λ e. h (0 ∷ e)) ms x
-  below-one x = tally-ext (λ y. h (element (one ∷ ms) y)) (λ y. h (0 ∷ element ms y)) x (λ y l. ap h (element-one ms y))
+  below-one x = sumTo-ext (λ y. h (element (one ∷ ms) y)) (λ y. h (0 ∷ element ms y)) x (λ y l. ap h (element-one ms y))
 
   -- the whole blocks, and what is left of the last
   blocks-two : (v : ℕ) → below h (two ∷ ms) (2 * v) ≡ below (λ e. h (0 ∷ e) + h (1 ∷ e)) ms v
   blocks-two v =
-      tally-two (λ y. h (element (two ∷ ms) y)) v
-      ∙ tally-ext (λ y. h (element (two ∷ ms) (0 + 2 * y)) + h (element (two ∷ ms) (1 + 2 * y))) (λ y. h (0 ∷ element ms y) + h (1 ∷ element ms y)) v
+      sumTo-two (λ y. h (element (two ∷ ms) y)) v
+      ∙ sumTo-ext (λ y. h (element (two ∷ ms) (0 + 2 * y)) + h (element (two ∷ ms) (1 + 2 * y))) (λ y. h (0 ∷ element ms y) + h (1 ∷ element ms y)) v
       (λ y l. ap₂ _+_ (ap h (element-two ms 0 y (omega arith))) (ap h (element-two ms 1 y (omega arith))))
 
   blocks-four : (v : ℕ) → below h (four ∷ ms) (4 * v) ≡ below (λ e. (h (0 ∷ e) + h (1 ∷ e)) + (h (2 ∷ e) + h (3 ∷ e))) ms v
   blocks-four v =
-      tally-four (λ y. h (element (four ∷ ms) y)) v
-      ∙ tally-ext
+      sumTo-four (λ y. h (element (four ∷ ms) y)) v
+      ∙ sumTo-ext
       (λ y. (h (element (four ∷ ms) (0 + 4 * y)) + h (element (four ∷ ms) (1 + 4 * y))) + (h (element (four ∷ ms) (2 + 4 * y)) + h (element (four ∷ ms) (3 + 4 * y))))
       (λ y. (h (0 ∷ element ms y) + h (1 ∷ element ms y)) + (h (2 ∷ element ms y) + h (3 ∷ element ms y))) v
       (λ y l.
@@ -107,7 +107,7 @@ module _ (h : List ℕ → ℕ) (ms : List Modulus) where
   rest (suc d) v = rest d v + h (d ∷ element ms v)
 
   pub below-two : (d v : ℕ) → d < 2 → below h (two ∷ ms) (d + 2 * v) ≡ below (λ e. h (0 ∷ e) + h (1 ∷ e)) ms v + rest d v
-  unfolding tally
+  unfolding sumTo
   below-two zero v l = let e : 0 + 2 * v ≡ 2 * v = omega arith in rw e (omega (arith, blocks-two v))
   below-two (suc d) v l =
       let i = below-two d v (omega arith) in
@@ -115,7 +115,7 @@ module _ (h : List ℕ → ℕ) (ms : List Modulus) where
       rw (e, element-two ms d v (omega arith)) (omega arith)
 
   pub below-four : (d v : ℕ) → d < 4 → below h (four ∷ ms) (d + 4 * v) ≡ below (λ e. (h (0 ∷ e) + h (1 ∷ e)) + (h (2 ∷ e) + h (3 ∷ e))) ms v + rest d v
-  unfolding tally
+  unfolding sumTo
   below-four zero v l = let e : 0 + 4 * v ≡ 4 * v = omega arith in rw e (omega (arith, blocks-four v))
   below-four (suc d) v l =
       let i = below-four d v (omega arith) in
