@@ -11,7 +11,7 @@ use borrow.Author.Tests.{eqb-true, eq-eqb, ne-eqb}
 use lib.Dec.{eqb}
 use lib.ListN.{length, take, drop, getD, set, replicate, length-set, length-drop, drop-of-length-le}
 use lib.Seq.{take-suc, take-suc-set, take-all, drop-cons, getD-drop}
-use Rattle.group.specs.Group.{Modulus, one, two, four, radix, moduliOf, moduli, hd, tl, zeros, sum, negative, times, number, element}
+use Rattle.group.specs.Group.{Modulus, one, two, four, radix, moduliOf, moduli, hd, tl, zeros, sum, times, number, element}
 use Rattle.group.specs.Sign.{same, allZero, firstOf}
 use Rattle.group.proofs.Signs.{agree}
 
@@ -102,11 +102,6 @@ unfolding sum
 length-sum [] x y = refl
 length-sum (m ∷ ms) x y = ap suc (length-sum ms (tl x) (tl y))
 
-pub length-negative : (ms : List Modulus) (x : List ℕ) → length (negative ms x) ≡ length ms
-unfolding negative
-length-negative [] x = refl
-length-negative (m ∷ ms) x = ap suc (length-negative ms (tl x))
-
 pub length-times : (ms : List Modulus) (d : ℕ) (x : List ℕ) → length (times ms d x) ≡ length ms
 unfolding times
 length-times [] d x = refl
@@ -135,13 +130,6 @@ sum-at [] x y i h = absurd (omega arith)
 sum-at (m ∷ ms) x y zero h = rw (getD-hd x, getD-hd y)
 sum-at (m ∷ ms) x y (suc i) h = sum-at ms (tl x) (tl y) i (omega arith) ∙ rw (getD-tl x i, getD-tl y i)
 
-pub negative-at : (ms : List Modulus) (x : List ℕ) (i : ℕ) → i < length ms
-    → getD (negative ms x) i 0 ≡ (radix (getD ms i one) - getD x i 0 % radix (getD ms i one)) % radix (getD ms i one)
-unfolding negative
-negative-at [] x i h = absurd (omega arith)
-negative-at (m ∷ ms) x zero h = rw (getD-hd x)
-negative-at (m ∷ ms) x (suc i) h = negative-at ms (tl x) i (omega arith) ∙ rw (getD-tl x i)
-
 pub times-at : (ms : List Modulus) (d : ℕ) (x : List ℕ) (i : ℕ) → i < length ms
     → getD (times ms d x) i 0 ≡ d * getD x i 0 % radix (getD ms i one)
 unfolding times
@@ -154,11 +142,6 @@ pub sum-mod : (m : Modulus) (x y : ℕ) → (x % 4 + y % 4) % radix m ≡ (x + y
 sum-mod one x y = omega arith
 sum-mod two x y = omega arith
 sum-mod four x y = omega arith
-
-pub negative-mod : (m : Modulus) (x : ℕ) → (4 - x % 4) % radix m ≡ (radix m - x % radix m) % radix m
-negative-mod one x = omega arith
-negative-mod two x = omega arith
-negative-mod four x = omega arith
 
 -- d x is (d % 4) (x % 4) and a multiple of 4
 split-four : (d x : ℕ) → d * x ≡ (d % 4) * (x % 4) + 4 * ((d % 4) * (x / 4) + (d / 4) * x)
