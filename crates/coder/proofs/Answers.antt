@@ -2,25 +2,24 @@
 use mathlib.Core.Path.{_≡_, refl, sym, ap, ap₂, _∙_}
 use mathlib.Core.Logic.{_⊎_, inl, inr, _≢_}
 use mathlib.Core.List.{List, [], _∷_, _++_}
-use mathlib.Core.Bool.{Bool, true, false, _&&_, _||_, not, true≢false}
-use Prim.Native.Nat.{ℕ, zero, suc, _+_, _≤_, _<_}
-use native.Mathlib.Omega.{arith}
+use mathlib.Core.Bool.{Bool, true, false, _&&_, _||_, not}
+use Prim.Native.Nat.{ℕ, zero, suc, _≤_, _<_}
 use lib.Dec.{eqb, ltb}
 use borrow.Author.Tests.{eq-eqb, ne-eqb, lt-ltb, le-ltb}
-use Rattle.group.specs.Group.{Modulus, number}
-use Rattle.layout.specs.Parameters.{Admitted, admits, placesOf, messageOf, moduliFor}
+use Rattle.group.specs.Group.{number}
+use Rattle.layout.specs.Parameters.{admits}
 use Rattle.layout.specs.Layout as layout
 use Rattle.layout.specs.Calls.{shapeFor, elementFor}
 use Rattle.layout.specs.declared.Shape.{Shape}
 use Rattle.layout.proofs.Parameters.{Known, known-for, moduli-known, element-for}
 use Rattle.coder.specs.State.{fresh, isClosed, isUnfit, isFit, placesIn, messageIn, elementIn}
-use Rattle.coder.specs.Reasons.{Reason, accepted, firstReason, notAdmitted, outside, closed, unfit}
-use Rattle.coder.specs.Calls.{ifAccepted, stateReasons, inForce, opened, refusedElement, elementAt, ifFit, wordLength, messageLength}
+use Rattle.coder.specs.Reasons.{Reason, firstReason, notAdmitted, outside}
+use Rattle.coder.specs.Calls.{ifAccepted, stateReasons, inForce, opened, refusedElement, elementAt, ifFit}
 use Rattle.coder.specs.declared.Record.{Record}
 use Rattle.coder.specs.declared.Opened.{Opened}
 use Rattle.coder.specs.declared.ElementAnswer.{ElementAnswer}
 use Rattle.coder.proofs.Firsts.{first-yes, first-no, first-end}
-use Rattle.coder.proofs.States.{state-number, state-fit, state-past, Fit, fit-true, true-fit}
+use Rattle.coder.proofs.States.{state-number, state-past, true-fit}
 
 abbrev numberOf : Reason → ℕ
 numberOf x = x .number

@@ -1,12 +1,12 @@
 -- A bound on the lengths, for callers that add them up. Assumes nothing.
-use mathlib.Core.Path.{_≡_, refl, sym, ap, _∙_}
+use mathlib.Core.Path.{_≡_, refl}
 use mathlib.Core.Bool.{Bool, true, false, _&&_, not}
-use Prim.Native.Nat.{ℕ, zero, suc, _-_, _^_, _≤_, _<_}
+use Prim.Native.Nat.{ℕ, _-_, _^_, _≤_, _<_}
 use native.Mathlib.Omega.{arith}
 use lib.Pow.{pow-mono}
 use Rattle.layout.specs.Parameters.{longest}
 use Rattle.coder.specs.State.{isClosed, isUnfit, isFit, placesIn}
-use Rattle.coder.specs.Calls.{ifFit, wordLength}
+use Rattle.coder.specs.Calls.{wordLength}
 use Rattle.coder.specs.declared.Record.{Record}
 use Rattle.coder.proofs.States.{true-fit}
 

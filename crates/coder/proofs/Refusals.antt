@@ -1,24 +1,23 @@
 -- Demand 1, call by call: refused with x exactly where x is the first of the call's reasons that applies, and accepted exactly where none
 -- does; what each reason says; and that every admitted pair opens and every place of its layout is told. Assumes nothing.
-use mathlib.Core.Path.{_≡_, refl, sym, ap, ap₂, subst, _∙_}
+use mathlib.Core.Path.{_≡_, refl, sym, ap, subst, _∙_}
 use mathlib.Core.Logic.{_⊎_, inl, inr, ⊎-elim, _≢_, _↔_}
-use mathlib.Core.List.{List, [], _∷_, _++_}
-use mathlib.Core.Bool.{Bool, true, false, _&&_, _||_, not, true≢false, false≢true}
-use Prim.Native.Nat.{ℕ, zero, suc, _+_, _≤_, _<_}
+use mathlib.Core.List.{List}
+use mathlib.Core.Bool.{Bool, true, false, _||_, not, true≢false}
+use Prim.Native.Nat.{ℕ, zero, suc, _≤_, _<_}
 use native.Mathlib.Omega.{arith}
 use lib.Dec.{eqb, ltb}
 use borrow.Author.Tests.{eqb-true, ltb-true, eq-eqb, lt-ltb}
-use Rattle.layout.specs.Parameters.{Admitted, admits, placesOf}
-use Rattle.layout.proofs.Parameters.{admits-admitted, admitted-admits, below-power}
-use Rattle.coder.specs.State.{fresh, isClosed, isUnfit, placesIn, elementIn}
+use Rattle.layout.specs.Parameters.{Admitted, admits}
+use Rattle.layout.proofs.Parameters.{admits-admitted, admitted-admits}
+use Rattle.coder.specs.State.{fresh, isUnfit, placesIn, elementIn}
 use Rattle.coder.specs.Reasons.{Reason, firstReason, notAdmitted, outside, closed, unfit}
 use Rattle.coder.specs.Calls.{inForce, openReasons, opened, layoutReasons, elementAt}
 use Rattle.coder.specs.declared.Record.{Record}
 use Rattle.coder.specs.declared.Opened.{Opened}
-use Rattle.coder.specs.declared.ElementAnswer.{ElementAnswer}
 use Rattle.coder.proofs.Firsts.{NoneApplies, Numbered, Given, none-accepted, accepted-none, given-first, first-given}
 use Rattle.coder.proofs.States.{Fit, fit-true, true-fit}
-use Rattle.coder.proofs.Answers.{opened-yes, opened-no, element-state, element-outside, element-inside, element-refusal}
+use Rattle.coder.proofs.Answers.{opened-yes, opened-no, element-inside, element-refusal}
 
 -- ---- "for those reasons only": what a refusal x has to do with the reasons rs of its call
 pub record Refuses (x : ℕ) (rs : List Reason) : Type 0 where

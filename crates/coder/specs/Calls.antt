@@ -1,5 +1,5 @@
 -- What each call answers, for every input: its reasons in order, and its outcome by the first of them that applies. Assumes nothing.
-use mathlib.Core.Bool.{Bool, true, false}
+use mathlib.Core.Bool.{true, false}
 use mathlib.Core.List.{List, [], _∷_, _++_}
 use Prim.Native.Nat.{ℕ, zero, suc}
 use Rattle.coder.specs.State.{fresh, isFit, placesIn, messageIn, elementIn}

@@ -1,8 +1,7 @@
 -- Document 01, "The record". Lengths and the layout are those of a record, so that callers need not know what fixes them.
 -- Assumes nothing.
-use mathlib.Core.Bool.{Bool, true, false, _&&_, _||_, not}
-use mathlib.Core.List.{List}
-use Prim.Native.Nat.{ℕ, zero, suc, _+_}
+use mathlib.Core.Bool.{Bool, _&&_, _||_, not}
+use Prim.Native.Nat.{ℕ, _+_}
 use lib.Dec.{eqb}
 use Rattle.group.specs.Group.{number}
 use Rattle.layout.specs.Parameters.{admits, placesOf, messageOf, moduliFor}

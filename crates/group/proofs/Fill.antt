@@ -4,13 +4,13 @@ use mathlib.Core.Path.{_≡_, refl, ap, sym, _∙_}
 use mathlib.Core.Bool.{Bool, true, false, _&&_}
 use mathlib.Core.List.{List, [], _∷_}
 use Prim.Native.Nat.{ℕ, zero, suc, _+_, _*_, _-_, _/_, _%_, _^_, _≤_, _<_}
-use native.Mathlib.Nat.{mod-add-div, mul-add, add-mul, mul-assoc, mul-left-comm, mul-comm, mod-lt, pow-succ', mul-le-mul, pow-le-pow-right}
+use native.Mathlib.Nat.{mod-add-div, mul-add, add-mul, mul-assoc, mul-left-comm, mul-comm, pow-succ', mul-le-mul, pow-le-pow-right}
 use native.Mathlib.Numerals.{add-one}
 use native.Mathlib.Omega.{arith}
 use borrow.Author.Tests.{eqb-true, eq-eqb, ne-eqb}
 use lib.Dec.{eqb}
 use lib.ListN.{length, take, drop, getD, set, replicate, length-set, length-drop, drop-of-length-le}
-use lib.Seq.{take-suc, take-suc-set, take-all, drop-cons, getD-drop}
+use lib.Seq.{take-suc, take-suc-set, take-all, drop-cons}
 use Rattle.group.specs.Group.{Modulus, one, two, four, radix, moduliOf, moduli, hd, tl, zeros, sum, times, number, element}
 use Rattle.group.specs.Sign.{same, allZero, firstOf}
 use Rattle.group.proofs.Signs.{agree}

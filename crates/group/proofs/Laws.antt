@@ -2,8 +2,8 @@
 -- moduli, and only those of zero ask that an element is valid. Assumes nothing.
 use mathlib.Core.Path.{_≡_, refl, sym, ap, ap₂, _∙_}
 use mathlib.Core.List.{List, [], _∷_}
-use Prim.Native.Nat.{ℕ, zero, suc, _+_, _-_, _*_, _/_, _%_, _<_}
-use native.Mathlib.Nat.{mod-lt, mod-add-mod, add-mod-mod, add-assoc, add-comm, zero-mul, add-mul, suc-mul, zero-mod}
+use Prim.Native.Nat.{ℕ, suc, _+_, _-_, _*_, _/_, _%_, _<_}
+use native.Mathlib.Nat.{mod-lt, mod-add-mod, add-mod-mod, add-assoc, add-comm, zero-mul, suc-mul, zero-mod}
 use native.Mathlib.Omega.{arith}
 use Rattle.group.specs.Group.{Modulus, one, two, four, radix, hd, tl, Valid, zeros, sum, negative, times, element}
 

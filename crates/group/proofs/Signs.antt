@@ -2,13 +2,13 @@
 use mathlib.Core.Path.{_≡_, refl, sym, ap, ap₂, _∙_, subst}
 use mathlib.Core.Logic.{_≢_}
 use mathlib.Core.List.{List, [], _∷_}
-use mathlib.Core.Bool.{Bool, true, false, _&&_, not, true≢false, false≢true, and-false}
-use Prim.Native.Nat.{ℕ, zero, suc, _+_, _-_, _*_, _/_, _%_, _<_, _≤_}
+use mathlib.Core.Bool.{Bool, true, false, _&&_, false≢true, and-false}
+use Prim.Native.Nat.{ℕ, zero, suc, _-_, _%_, _<_}
 use native.Mathlib.Omega.{arith}
 use lib.Dec.{T, eqb, eqb→eq, eqb-refl}
-use lib.ListN.{length, getD}
-use Rattle.group.specs.Group.{Modulus, one, two, four, radix, hd, tl, Valid, zeros, negative}
-use Rattle.group.specs.Sign.{same, allZero, unitOr, isUnit, oddOr, lead}
+use lib.ListN.{getD}
+use Rattle.group.specs.Group.{Modulus, one, two, four, hd, tl, Valid, zeros, negative}
+use Rattle.group.specs.Sign.{same, allZero, isUnit, oddOr, lead}
 use Rattle.group.proofs.Laws.{valid-negative, negative-negative, negative-zeros}
 
 -- ---- tests

@@ -3,7 +3,7 @@
 // its remainder. What each one means is in specs/, its laws in proofs/Laws.antt, Numbers.antt and
 // Signs.antt. Callers rely on those laws and not on how the sums are made.
 ghost use mathlib.Core.Path.{_≡_};
-ghost use Prim.Native.Nat.{ℕ, _≤_, _<_};
+ghost use Prim.Native.Nat.{_<_};
 ghost use lib.ListN.{getD};
 ghost use Rattle.group.specs.Group.{one, radix, moduli, zeros, sum, negative, times, number, element};
 ghost use Rattle.group.specs.Sign.{same, allZero, firstOf};

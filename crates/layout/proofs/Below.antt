@@ -3,18 +3,18 @@
 use mathlib.Core.Path.{_≡_, refl, sym, ap, ap₂, _∙_}
 use mathlib.Core.List.{List, [], _∷_}
 use mathlib.Core.Bool.{Bool, true, false, _&&_, not}
-use Prim.Native.Nat.{ℕ, zero, suc, _+_, _-_, _*_, _/_, _%_, _<_, _≤_}
+use Prim.Native.Nat.{ℕ, zero, suc, _+_, _*_, _<_, _≤_}
 use native.Mathlib.Nat.{le-of-lt}
 use native.Mathlib.Omega.{arith}
 use lib.Dec.{eqb, leb, ltb}
 use borrow.Author.Tests.{eq-eqb, ne-eqb, lt-ltb, le-ltb}
-use Rattle.group.specs.Group.{Modulus, one, two, four, radix, hd, tl, Valid, zeros, number, element, size}
-use Rattle.group.specs.Sign.{allZero, unitOr, isUnit, oddOr, lead}
+use Rattle.group.specs.Group.{Modulus, one, two, four, Valid, zeros, number, element, size}
+use Rattle.group.specs.Sign.{allZero, unitOr, isUnit, lead}
 use Rattle.group.proofs.Laws.{valid-element}
 use Rattle.group.proofs.Numbers.{element-number, number-element, number-lt, element-zero, number-zeros}
 use Rattle.group.proofs.Signs.{lead-zeros, allZero-zeros, zeros-allZero, agree, true-T}
 use Rattle.layout.specs.Gate.{gate, hit}
-use Rattle.layout.specs.Rank.{signOf, start, stepTwo, stepFour, stepOf, rankOf}
+use Rattle.layout.specs.Rank.{signOf, stepTwo, stepFour, rankOf}
 use Rattle.layout.specs.declared.rank.Rank.{Rank}
 use Rattle.layout.proofs.Sums.{sumTo, sumTo-ext, sumTo-add, sumTo-gate, sumTo-ones, below, below-one, below-two, below-four, rest}
 use Rattle.layout.proofs.Cover.{ofSign}

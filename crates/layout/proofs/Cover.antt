@@ -12,8 +12,8 @@ use Rattle.group.specs.Group.{Modulus, one, two, four, radix, Valid, zeros, sum
 use Rattle.group.specs.Sign.{same, allZero, isUnit, lead}
 use Rattle.group.proofs.Laws.{valid-zeros, valid-negative, valid-element, sum-negative, negative-unique, negative-negative, negative-zeros}
 use Rattle.group.proofs.Numbers.{element-number, number-element, number-lt, number-zeros, number-pos}
-use Rattle.group.proofs.Signs.{true-T, same-refl, same-eq, same-ne, same-neg, agree, Lead, even, plus, minus, lead-cases, lead-zeros, even-own, own-even, lead-negative, allZero-same, zeros-unit, isUnit3, unit3, unit-sign, negative-under, negative-unit-two, negative-unit-four, zeros-cons}
-use Rattle.layout.specs.Layout.{from, keep, Slot, single, pair, elements, inSingles, singles, inPairs, pairs, unitSlot, under, units, message, slots, places}
+use Rattle.group.proofs.Signs.{true-T, same-refl, same-eq, same-ne, same-neg, agree, Lead, even, plus, minus, lead-cases, lead-zeros, even-own, own-even, lead-negative, allZero-same, zeros-unit, isUnit3, unit3, unit-sign, negative-under, negative-unit-four}
+use Rattle.layout.specs.Layout.{from, keep, Slot, single, pair, elements, inSingles, singles, inPairs, pairs, under, units, message, slots, places}
 use Rattle.layout.specs.Gate.{gate, hit}
 use Rattle.layout.proofs.Lists.{count, count-append, All, all-keep, keep-agree, count-keep}
 

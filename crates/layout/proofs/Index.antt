@@ -1,24 +1,23 @@
 -- Where each element stands: the places part by part, the members of the message's parts by their rank, the check places by component.
 -- Assumes nothing.
-use mathlib.Core.Path.{_≡_, refl, sym, ap, ap₂, subst, _∙_}
-use mathlib.Core.Logic.{_≢_}
+use mathlib.Core.Path.{_≡_, refl, sym, ap, ap₂, _∙_}
 use mathlib.Core.List.{List, [], _∷_, _++_, map, append-assoc}
 use mathlib.Core.Bool.{Bool, true, false, _&&_, not}
-use Prim.Native.Nat.{ℕ, zero, suc, _+_, _-_, _*_, _/_, _%_, _^_, _<_, _≤_}
+use Prim.Native.Nat.{ℕ, zero, suc, _+_, _-_, _*_, _<_, _≤_}
 use native.Mathlib.Omega.{arith}
 use borrow.Author.Tests.{eq-eqb}
-use lib.ListN.{length, getD, set, length-map, length-append, List·getD-append, List·getD-map}
+use lib.ListN.{length, getD, set, List·getD-append, List·getD-map}
 use lib.Seq.{getD-append-add, getD-at}
-use Rattle.group.specs.Group.{Modulus, one, two, four, moduliOf, moduli, Valid, zeros, negative, number, element, size}
-use Rattle.group.specs.Sign.{isUnit, lead}
+use Rattle.group.specs.Group.{Modulus, two, four, moduliOf, moduli, zeros, negative, number, element, size}
+use Rattle.group.specs.Sign.{lead}
 use Rattle.group.proofs.Numbers.{element-number, number-lt}
 use Rattle.group.proofs.Signs.{zeros-cons}
-use Rattle.layout.specs.Layout.{from, keep, Slot, single, pair, elements, singles, pairs, units, message, slots, places, elementAt}
-use Rattle.layout.specs.Gate.{gate, hit}
+use Rattle.layout.specs.Layout.{from, keep, single, pair, elements, singles, pairs, units, message, slots, places, elementAt}
+use Rattle.layout.specs.Gate.{hit}
 use Rattle.layout.specs.Rank.{signOf, partOf, Member}
-use Rattle.layout.proofs.Lists.{count, keep-yes, keep-append, length-keep, length-from, from-append}
-use Rattle.layout.proofs.Cover.{ofSign, singles-signs, places-append, places-singles, unitPlaces, places-units}
-use Rattle.layout.proofs.Sums.{sumTo, below}
+use Rattle.layout.proofs.Lists.{count, keep-yes, keep-append, length-keep, from-append}
+use Rattle.layout.proofs.Cover.{ofSign, singles-signs, places-append, places-singles, places-units}
+use Rattle.layout.proofs.Sums.{sumTo}
 use Rattle.layout.proofs.Below.{members}
 use Rattle.layout.proofs.Sizes.{count-run, members-first, count-elements, length-places-pairs}
 

@@ -1,11 +1,11 @@
 -- From an element to its place: by its sign, and by whether it is a unit. Assumes nothing.
-use mathlib.Core.Path.{_≡_, refl, sym, ap, ap₂, _∙_}
-use mathlib.Core.List.{List, [], _∷_}
-use mathlib.Core.Bool.{Bool, true, false}
-use Prim.Native.Nat.{ℕ, zero, suc, _+_, _-_, _*_, _<_, _≤_}
+use mathlib.Core.Path.{_≡_, sym, ap, _∙_}
+use mathlib.Core.List.{List}
+use mathlib.Core.Bool.{Bool, true}
+use Prim.Native.Nat.{ℕ, suc, _+_, _-_, _*_, _<_, _≤_}
 use native.Mathlib.Omega.{arith}
 use lib.ListN.{length, getD}
-use Rattle.group.specs.Group.{Modulus, one, four, moduli, Valid, zeros, negative, number}
+use Rattle.group.specs.Group.{Modulus, one, four, moduli, Valid, zeros, negative}
 use Rattle.group.specs.Sign.{isUnit, firstOf, lead}
 use Rattle.group.proofs.Fill.{length-moduli, moduli-four}
 use Rattle.layout.specs.Layout.{singles, pairs, elementAt}

@@ -3,14 +3,14 @@
 use mathlib.Core.Path.{_≡_, refl, sym, ap, ap₂, subst, _∙_}
 use mathlib.Core.List.{List}
 use mathlib.Core.Bool.{Bool, true, false, _&&_}
-use Prim.Native.Nat.{ℕ, zero, suc, _+_, _-_, _*_, _/_, _^_, _<_, _≤_}
+use Prim.Native.Nat.{ℕ, zero, suc, _+_, _*_, _^_, _<_, _≤_}
 use native.Mathlib.Nat.{pow-succ'}
 use native.Mathlib.Omega.{arith}
 use lib.Dec.{leb}
 use lib.ListN.{length, List·getD-eq-default}
 use lib.Pow.{pow-pos, pow-mono}
 use borrow.Author.Tests.{leb-true, le-leb}
-use Rattle.group.specs.Group.{Modulus, moduli, zeros, size}
+use Rattle.group.specs.Group.{moduli, zeros, size}
 use Rattle.group.proofs.Fill.{zeros-moduli}
 use Rattle.group.proofs.Numbers.{size-moduli}
 use Rattle.group.proofs.Signs.{both}

@@ -4,21 +4,21 @@
 --   good-slots: a single's element is its own negative, and a pair's are −z and z, where z has the sign 1;
 --   place-unique, place-none: the place of an element is that one place, and 0 where there is none.
 -- Assumes nothing.
-use mathlib.Core.Path.{_≡_, refl, sym, ap, ap₂, subst, _∙_}
+use mathlib.Core.Path.{_≡_, refl, sym, ap, subst, _∙_}
 use mathlib.Core.Logic.{_≢_}
 use mathlib.Core.List.{List, [], _∷_, _++_, map}
-use mathlib.Core.Bool.{Bool, true, false, _&&_, not, true≢false, false≢true}
-use Prim.Native.Nat.{ℕ, zero, suc, _+_, _-_, _*_, _<_, _≤_}
+use mathlib.Core.Bool.{Bool, true, false, not, true≢false}
+use Prim.Native.Nat.{ℕ, zero, suc, _+_, _<_}
 use native.Mathlib.Omega.{arith}
 use native.Mathlib.Decide.{decLt}
 use lib.Dec.{eqb, eqb→eq}
 use lib.ListN.{length, getD, List·getD-eq-default}
-use Rattle.group.specs.Group.{Modulus, one, two, four, radix, Valid, zeros, negative, number, element, size}
+use Rattle.group.specs.Group.{Modulus, one, two, four, Valid, zeros, negative, number, element, size}
 use Rattle.group.specs.Sign.{same, isUnit, lead}
-use Rattle.group.proofs.Laws.{radix-pos, valid-zeros, valid-negative, valid-element, negative-zeros}
+use Rattle.group.proofs.Laws.{radix-pos, valid-zeros, valid-negative, valid-element}
 use Rattle.group.proofs.Numbers.{element-number, element-zero, number-zeros}
-use Rattle.group.proofs.Signs.{true-T, both, not-true, same-refl, same-eq, even-own, lead-zeros, negative-under, negative-unit-two}
-use Rattle.layout.specs.Layout.{keep, Slot, single, pair, elements, singles, pairs, unitSlot, under, units, message, slots, places, elementAt, placeFrom, placeOf}
+use Rattle.group.proofs.Signs.{true-T, both, not-true, same-refl, same-eq, even-own, negative-under, negative-unit-two}
+use Rattle.layout.specs.Layout.{keep, Slot, single, pair, elements, singles, pairs, under, units, message, slots, places, elementAt, placeFrom, placeOf}
 use Rattle.layout.specs.Gate.{hit}
 use Rattle.layout.proofs.Lists.{count, All, all-kept}
 use Rattle.layout.proofs.Cover.{ofSign, valid-elements, singles-signs, cover, cover-zero}

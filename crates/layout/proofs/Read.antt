@@ -1,25 +1,24 @@
 -- The loop that reads an element's components from the last to the first: one step, and that nothing overflows. Assumes nothing.
 use mathlib.Core.Path.{_≡_, refl, sym, ap, subst, _∙_}
-use mathlib.Core.Logic.{_⊎_, inl, inr, ⊎-elim}
+use mathlib.Core.Logic.{_⊎_, ⊎-elim}
 use mathlib.Core.List.{List, [], _∷_}
 use mathlib.Core.Bool.{Bool, true, false}
-use Prim.Native.Nat.{ℕ, zero, suc, _+_, _-_, _^_, _<_, _≤_}
-use native.Mathlib.Numerals.{add-one}
+use Prim.Native.Nat.{ℕ, zero, suc, _-_, _<_, _≤_}
 use native.Mathlib.Omega.{arith}
 use lib.Dec.{eqb}
 use lib.ListN.{length, drop, getD, drop-of-length-le}
 use lib.Seq.{drop-cons}
-use Rattle.group.specs.Group.{Modulus, one, two, four, radix, moduli, Valid, number, element, size}
+use Rattle.group.specs.Group.{Modulus, one, radix, moduli, Valid, number, element, size}
 use Rattle.group.specs.Sign.{isUnit, lead}
 use Rattle.group.proofs.Laws.{valid-element}
 use Rattle.group.proofs.Numbers.{number-element, number-pos}
 use Rattle.group.proofs.Signs.{lead-zeros}
 use Rattle.group.proofs.Fill.{length-moduli, radix-small, number-drop-lt}
-use Rattle.layout.specs.Gate.{gate, hit}
+use Rattle.layout.specs.Gate.{hit}
 use Rattle.layout.specs.Rank.{signOf, start, stepOf, rankOf, Small, Member}
 use Rattle.layout.specs.declared.rank.Rank.{Rank}
 use Rattle.layout.proofs.Sums.{sumTo}
-use Rattle.layout.proofs.Below.{led, unitsLed, members, members-units, rankRight, rank-right, units-led}
+use Rattle.layout.proofs.Below.{led, members, members-units, rank-right, units-led}
 use Rattle.layout.proofs.Cover.{ofSign}
 
 pub valid-drop : (ms : List Modulus) (x : List ℕ) (i : ℕ) → Valid ms x → Valid (drop i ms) (drop i x)

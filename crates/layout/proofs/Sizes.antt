@@ -1,19 +1,18 @@
 -- How many places, singles and pairs a layout has, for every list of moduli. Assumes nothing.
 use mathlib.Core.Path.{_≡_, refl, sym, ap, ap₂, _∙_}
-use mathlib.Core.List.{List, [], _∷_, _++_, map}
-use mathlib.Core.Bool.{Bool, true, false, _&&_, not}
-use Prim.Native.Nat.{ℕ, zero, suc, _+_, _-_, _*_, _^_, _<_, _≤_}
+use mathlib.Core.List.{List, [], _∷_, map}
+use mathlib.Core.Bool.{Bool, true, false, not}
+use Prim.Native.Nat.{ℕ, zero, suc, _+_, _-_, _*_, _^_, _≤_}
 use native.Mathlib.Nat.{pow-succ', le-refl}
 use native.Mathlib.Omega.{arith}
-use lib.Dec.{ltb}
 use lib.ListN.{length, length-map, length-append}
 use borrow.Author.Tests.{lt-ltb}
-use Rattle.group.specs.Group.{Modulus, one, two, four, moduliOf, moduli, zeros, negative, element, size}
+use Rattle.group.specs.Group.{Modulus, one, two, four, moduliOf, moduli, zeros, element, size}
 use Rattle.group.specs.Sign.{isUnit, lead}
 use Rattle.group.proofs.Numbers.{size-pos, element-zero}
 use Rattle.group.proofs.Signs.{lead-zeros, zeros-unit}
-use Rattle.layout.specs.Layout.{from, keep, Slot, single, pair, elements, singles, pairs, units, message, slots, places}
-use Rattle.layout.specs.Gate.{gate, hit}
+use Rattle.layout.specs.Layout.{from, single, pair, elements, singles, pairs, units, message, slots, places}
+use Rattle.layout.specs.Gate.{hit}
 use Rattle.layout.specs.Rank.{signOf}
 use Rattle.layout.proofs.Lists.{count, length-keep}
 use Rattle.layout.proofs.Cover.{ofSign, singles-signs, places-append, places-singles, unitPlaces, places-units}

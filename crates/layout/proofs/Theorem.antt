@@ -1,15 +1,15 @@
 -- The layout of every admitted t and r: document 01's numbers of places, and every element other than zero at exactly one place.
 -- Assumes nothing.
-use mathlib.Core.Path.{_≡_, refl, sym, ap, ap₂, _∙_}
+use mathlib.Core.Path.{_≡_, refl, sym, ap, _∙_}
 use mathlib.Core.List.{List, [], _∷_, _++_, map}
-use Prim.Native.Nat.{ℕ, zero, suc, _+_, _-_, _*_, _^_, _<_, _≤_}
+use Prim.Native.Nat.{ℕ, suc, _+_, _<_, _≤_}
 use native.Mathlib.Omega.{arith}
 use lib.ListN.{length}
 use lib.Pow.{pow-pos}
-use Rattle.group.specs.Group.{Modulus, one, two, four, zeros, number, element, size}
+use Rattle.group.specs.Group.{Modulus, one, two, four, number, element, size}
 use Rattle.group.proofs.Laws.{valid-element}
 use Rattle.group.proofs.Numbers.{element-number, number-element, number-zeros}
-use Rattle.layout.specs.Parameters.{Admitted, placesOf, pairsOf, messageOf, binaryOf, quaternaryOf, moduliFor}
+use Rattle.layout.specs.Parameters.{Admitted, placesOf, pairsOf, messageOf, moduliFor}
 use Rattle.layout.specs.Layout.{Slot, single, pair, singles, pairs, under, units, message, slots, places, elementAt}
 use Rattle.layout.proofs.Sizes.{twos, fours, length-message}
 use Rattle.layout.proofs.Places.{Good, good-slots, valid-at-place, one-place}

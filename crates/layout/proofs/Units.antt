@@ -1,15 +1,15 @@
 -- Units: the one component of a unit, its sign, and its negative. Assumes nothing.
-use mathlib.Core.Path.{_≡_, refl, sym, ap, ap₂, subst, _∙_}
+use mathlib.Core.Path.{_≡_, refl, sym, ap, subst, _∙_}
 use mathlib.Core.List.{List, [], _∷_}
-use mathlib.Core.Bool.{Bool, true, false, false≢true}
-use Prim.Native.Nat.{ℕ, zero, suc, _+_, _-_, _<_, _≤_}
+use mathlib.Core.Bool.{true, false≢true}
+use Prim.Native.Nat.{ℕ, zero, suc, _-_, _<_, _≤_}
 use native.Mathlib.Omega.{arith}
 use native.Mathlib.Decide.{decLt}
-use lib.ListN.{length, getD, set}
+use lib.ListN.{length, getD}
 use Rattle.group.specs.Group.{Modulus, one, two, four, radix, moduli, Valid, zeros, negative}
 use Rattle.group.specs.Sign.{isUnit, firstOf, lead}
 use Rattle.group.proofs.Fill.{length-moduli, moduli-two, moduli-four, moduli-one}
-use Rattle.group.proofs.Signs.{lead-zeros, allZero-zeros, negative-under, negative-unit-four, zeros-cons}
+use Rattle.group.proofs.Signs.{lead-zeros, allZero-zeros, negative-under, negative-unit-four}
 use Rattle.layout.proofs.Index.{alone}
 
 -- a unit has 1 at its first component that is not 0, and that component is in use

@@ -1,7 +1,6 @@
 -- `coder::lengths` meets its contract: the shape of the record's parameters, or that of none. Assumes nothing.
 use borrow.Author.Needs.{needs}
-use mathlib.Core.Path.{_≡_, sym, ap, _∙_}
-use Prim.Native.Nat.{ℕ}
+use mathlib.Core.Path.{sym, ap, _∙_}
 use Rattle.layout.specs.Parameters.{admits}
 use Rattle.layout.specs.Calls.{shapeFor}
 use Rattle.layout.specs.declared.Shape.{Shape}

@@ -1,7 +1,6 @@
 -- `coder::open` meets its contract. Assumes nothing.
 use borrow.Author.Needs.{needs}
-use mathlib.Core.Path.{_≡_, sym, ap, _∙_}
-use Prim.Native.Nat.{ℕ}
+use mathlib.Core.Path.{sym, ap, _∙_}
 use Rattle.layout.specs.Parameters.{admits}
 use Rattle.coder.proofs.Answers.{opened-yes, opened-no}
 use Rattle.coder.proofs.open.Statement.{statement}

@@ -1,7 +1,7 @@
 -- `coder::unfit` meets its contract. Assumes nothing.
 use borrow.Author.Needs.{needs}
 use borrow.Author.Tests.{eq-eqb, ne-eqb}
-use mathlib.Core.Path.{_≡_, sym, _∙_}
+use mathlib.Core.Path.{sym, _∙_}
 use Rattle.coder.specs.State.{isUnfit}
 use Rattle.coder.proofs.unfit.Statement.{statement}
 use Rattle.coder.proofs.unfit.Tie as tie

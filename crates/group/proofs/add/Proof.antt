@@ -1,9 +1,9 @@
 -- `group::add` meets its contract: the loop fills the sum from the front. Assumes nothing.
 use borrow.Author.Needs.{needs}
-use mathlib.Core.Path.{_≡_, sym, _∙_}
-use Prim.Native.Nat.{_-_, _<_}
+use mathlib.Core.Path.{sym, _∙_}
+use Prim.Native.Nat.{_-_}
 use native.Mathlib.Omega.{arith}
-use lib.ListN.{length, getD}
+use lib.ListN.{getD}
 use Rattle.group.specs.Group.{one, moduli, sum}
 use Rattle.group.proofs.Fill.{Filled, fill-step, fill-done, modulus-pos, length-moduli, length-sum, sum-at, sum-mod}
 use Rattle.group.proofs.add.Statement.{statement}

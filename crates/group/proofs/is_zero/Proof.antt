@@ -1,7 +1,6 @@
 -- `group::is_zero` meets its contract: no component is found that is not 0. Assumes nothing.
 use borrow.Author.Needs.{needs}
 use mathlib.Core.Path.{_≡_, ap, sym, _∙_}
-use Prim.Native.Nat.{ℕ}
 use lib.Dec.{eqb}
 use lib.ListN.{length}
 use Rattle.group.specs.Sign.{firstOf}

@@ -1,10 +1,10 @@
 -- `group::multiple` meets its contract: the loop fills the multiple from the front. Assumes nothing.
 use borrow.Author.Needs.{needs}
-use mathlib.Core.Path.{_≡_, sym, _∙_}
-use Prim.Native.Nat.{_-_, _%_, _<_, _≤_}
+use mathlib.Core.Path.{sym, _∙_}
+use Prim.Native.Nat.{_-_, _%_, _≤_}
 use native.Mathlib.Omega.{arith}
 use native.Mathlib.Nat.{mul-le-mul}
-use lib.ListN.{length, getD}
+use lib.ListN.{getD}
 use Rattle.group.specs.Group.{one, moduli, times}
 use Rattle.group.proofs.Fill.{Filled, fill-step, fill-done, modulus-pos, length-moduli, length-times, times-at, times-mod}
 use Rattle.group.proofs.multiple.Statement.{statement}

@@ -1,7 +1,7 @@
 -- `group::number_of` meets its contract: the loop reads the number off from the last component down. Assumes nothing.
 use borrow.Author.Needs.{needs}
 use mathlib.Core.Path.{_≡_, sym}
-use Prim.Native.Nat.{_≤_, _-_}
+use Prim.Native.Nat.{_≤_}
 use native.Mathlib.Omega.{arith}
 use lib.ListN.{drop}
 use Rattle.group.specs.Group.{moduli, number}

@@ -4,7 +4,7 @@ use mathlib.Core.Path.{_≡_, _∙_}
 use mathlib.Core.Logic.{⊎-elim}
 use Prim.Native.Nat.{_-_, _%_, _/_}
 use native.Mathlib.Omega.{arith}
-use Rattle.group.specs.Group.{one, two, four, moduli}
+use Rattle.group.specs.Group.{one, two, four}
 use Rattle.group.proofs.Fill.{Left, left-step, fill-done, length-element, length-moduli, moduli-two, moduli-four, moduli-one}
 use Rattle.group.proofs.of_number.Statement.{statement}
 use Rattle.group.proofs.of_number.Tie as tie

@@ -1,12 +1,12 @@
 -- `layout::message_element` meets its contract: a single, or one of the two places of a pair. Assumes nothing.
 use borrow.Author.Needs.{needs}
-use mathlib.Core.Path.{_≡_, sym, ap, _∙_}
+use mathlib.Core.Path.{_≡_, sym, _∙_}
 use Prim.Native.Nat.{suc, _+_, _-_, _*_, _/_}
 use native.Mathlib.Numerals.{add-one}
 use native.Mathlib.Omega.{arith}
 use lib.ListN.{length}
 use Rattle.group.specs.Group.{moduli}
-use Rattle.layout.specs.Layout.{singles, elementAt}
+use Rattle.layout.specs.Layout.{singles}
 use Rattle.layout.proofs.Index.{at-single, at-pair}
 use Rattle.layout.proofs.message_element.Statement.{statement}
 use Rattle.layout.proofs.message_element.Tie as tie

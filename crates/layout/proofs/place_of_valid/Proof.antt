@@ -3,9 +3,9 @@ use borrow.Author.Needs.{needs}
 use mathlib.Core.Path.{_≡_, sym, ap, subst, _∙_}
 use mathlib.Core.Logic.{inl}
 use mathlib.Core.Bool.{false}
-use Prim.Native.Nat.{ℕ, _+_, _-_, _<_}
+use Prim.Native.Nat.{ℕ, _+_, _<_}
 use native.Mathlib.Omega.{arith}
-use Rattle.group.specs.Group.{moduli, Valid, negative}
+use Rattle.group.specs.Group.{moduli, negative}
 use Rattle.group.specs.Sign.{lead, isUnit}
 use Rattle.group.proofs.Laws.{valid-negative, negative-negative}
 use Rattle.group.proofs.Signs.{lead-minus}

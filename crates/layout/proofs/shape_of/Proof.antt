@@ -1,6 +1,6 @@
 -- `layout::shape_of` meets its contract: the numbers of document 01, or zeros. Assumes nothing.
 use borrow.Author.Needs.{needs}
-use mathlib.Core.Path.{_≡_, sym, _∙_}
+use mathlib.Core.Path.{sym, _∙_}
 use native.Mathlib.Omega.{arith}
 use Rattle.layout.specs.Calls.{shapeFor}
 use Rattle.layout.proofs.Parameters.{bounds}
