@@ -1,4 +1,5 @@
--- Laws is the group, Numbers the numbering, Signs the sign and the units: what the crates above may use. Fill is for the loops here.
+-- Laws is the group, Numbers the numbering, Signs the sign and the units: what the crates above may use. Fill has the moduli by
+-- index and what the loops here need.
 pub mod Laws
 pub mod Numbers
 pub mod Signs
