@@ -6,8 +6,8 @@ ghost use Rattle.coder.specs.State.{fresh, isUnfit};
 ghost use Rattle.coder.specs.Reasons.{firstReason};
 ghost use Rattle.coder.specs.Calls.{inForce, stateReasons, refusedElement, opened, elementAt, wordLength, messageLength};
 
-// Which code it is, and how many words were corrected. The last two counts are "mended binary" and
-// "mended in pairs" in document 01.
+// Which code it is, and how many words were corrected. The last two counts are what
+// document 01 calls "mended binary" and "mended in pairs".
 pub struct Record {
     pub t: u32,
     pub r: u32,
