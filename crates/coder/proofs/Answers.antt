@@ -1,7 +1,7 @@
 -- What each call answers, by the reasons that apply: what the proofs of the calls cite. Assumes nothing.
-use mathlib.Core.Path.{_≡_, refl, sym, ap, ap₂, _∙_}
+use mathlib.Core.Path.{_≡_, refl, ap, ap₂, _∙_}
 use mathlib.Core.Logic.{_⊎_, inl, inr, _≢_}
-use mathlib.Core.List.{List, [], _∷_, _++_}
+use mathlib.Core.List.{List, [], _∷_}
 use mathlib.Core.Bool.{Bool, true, false, _&&_, _||_, not}
 use Prim.Native.Nat.{ℕ, zero, suc, _≤_, _<_}
 use lib.Dec.{eqb, ltb}
@@ -13,10 +13,9 @@ use Rattle.layout.specs.Calls.{shapeFor, elementFor}
 use Rattle.layout.specs.declared.Shape.{Shape}
 use Rattle.layout.proofs.Parameters.{Known, known-for, moduli-known, element-for}
 use Rattle.coder.specs.State.{fresh, isClosed, isUnfit, isFit, placesIn, messageIn, elementIn}
-use Rattle.coder.specs.Reasons.{Reason, firstReason, notAdmitted, outside}
-use Rattle.coder.specs.Calls.{ifAccepted, stateReasons, inForce, opened, refusedElement, elementAt, ifFit}
+use Rattle.coder.specs.Reasons.{Reason, accepted, firstReason, notAdmitted, outside}
+use Rattle.coder.specs.Calls.{ifAccepted, stateReasons, inForce, opened, layoutReasons, refusedElement, elementAt, ifFit}
 use Rattle.coder.specs.declared.Record.{Record}
-use Rattle.coder.specs.declared.Opened.{Opened}
 use Rattle.coder.specs.declared.ElementAnswer.{ElementAnswer}
 use Rattle.coder.proofs.Firsts.{first-yes, first-no, first-end}
 use Rattle.coder.proofs.States.{state-number, state-past, true-fit}
@@ -25,57 +24,61 @@ abbrev numberOf : Reason → ℕ
 numberOf x = x .number
 
 -- ---- opening
-opened-by : (t r n : ℕ) → firstReason (notAdmitted t (inForce t r) ∷ []) .number ≡ n
-    → opened t r ≡ record { refusal = n; «record» = ifAccepted n (fresh t (inForce t r)) (fresh 0 0) }
-unfolding opened
-opened-by t r n e = ap {B = Opened} (λ (k : ℕ). record { refusal = k; «record» = ifAccepted k (fresh t (inForce t r)) (fresh 0 0) }) e
-
 pub opened-yes : (t r : ℕ) → admits t (inForce t r) ≡ true → opened t r ≡ record { refusal = 0; «record» = fresh t (inForce t r) }
-opened-yes t r h = opened-by t r 0 (ap numberOf (first-no (notAdmitted t (inForce t r)) [] (ap not h) ∙ first-end))
+unfolding opened
+opened-yes t r h = rw (first-no (notAdmitted t (inForce t r)) [] (ap not h), first-end)
 
 pub opened-no : (t r : ℕ) → admits t (inForce t r) ≡ false → opened t r ≡ record { refusal = 1; «record» = fresh 0 0 }
-opened-no t r h = opened-by t r 1 (ap numberOf (first-yes (notAdmitted t (inForce t r)) [] (ap not h)))
+unfolding opened
+opened-no t r h = rw (first-yes (notAdmitted t (inForce t r)) [] (ap not h))
 
 -- ---- the layout
-element-by : (rec : Record) (p n : ℕ) → firstReason (stateReasons rec ++ (outside rec p ∷ [])) .number ≡ n
-    → elementAt rec p ≡ ifAccepted n (record { refusal = 0; place = 0; element = elementIn rec p }) (refusedElement n)
+-- the answer is the refusal's, or the element, by the first reason's number
+element-by : (rec : Record) (p : ℕ) (x : Reason) → firstReason (layoutReasons rec p) ≡ x
+    → elementAt rec p ≡ ifAccepted (x .number) (record { refusal = 0; place = 0; element = elementIn rec p }) (refusedElement (x .number))
 unfolding elementAt
-element-by rec p n e =
-    ap {B = ElementAnswer} (λ (k : ℕ). ifAccepted k (record { refusal = 0; place = 0; element = elementIn rec p }) (refusedElement k)) e
+element-by rec p x e = rw e
 
-pub element-refusal : (rec : Record) (p : ℕ) → elementAt rec p .refusal ≡ firstReason (stateReasons rec ++ (outside rec p ∷ [])) .number
-element-refusal rec p = go (firstReason (stateReasons rec ++ (outside rec p ∷ [])) .number) refl
+pub element-refusal : (rec : Record) (p : ℕ) → elementAt rec p .refusal ≡ firstReason (layoutReasons rec p) .number
+element-refusal rec p = ap (λ (y : ElementAnswer). y .refusal) (element-by rec p x refl) ∙ go (x .number)
   where
-    go : (n : ℕ) → firstReason (stateReasons rec ++ (outside rec p ∷ [])) .number ≡ n
-        → elementAt rec p .refusal ≡ firstReason (stateReasons rec ++ (outside rec p ∷ [])) .number
-    go zero e = ap (λ (x : ElementAnswer). x .refusal) (element-by rec p 0 e) ∙ sym e
-    go (suc n) e = ap (λ (x : ElementAnswer). x .refusal) (element-by rec p (suc n) e) ∙ sym e
+    x : Reason
+    x = firstReason (layoutReasons rec p)
+
+    go : (n : ℕ) → ifAccepted n (record { refusal = 0; place = 0; element = elementIn rec p }) (refusedElement n) .refusal ≡ n
+    go zero = refl
+    go (suc n) = refl
 
 pub element-state : (rec : Record) (p n : ℕ) → n ≡ firstReason (stateReasons rec) .number → n ≢ 0 → elementAt rec p ≡ refusedElement n
-element-state rec p zero e h = absurd (h refl)
-element-state rec p (suc n) e h =
-    element-by rec p (suc n) (ap numberOf (state-number rec (outside rec p ∷ []) (λ z. h (e ∙ z))) ∙ sym e)
+element-state rec p n e h =
+    element-by rec p (firstReason (stateReasons rec)) (state-number rec (outside rec p ∷ []) (λ z. h (e ∙ z)))
+    ∙ rw (← e) (go n h)
+  where
+    go : (n : ℕ) → n ≢ 0
+        → ifAccepted n (record { refusal = 0; place = 0; element = elementIn rec p }) (refusedElement n) ≡ refusedElement n
+    go zero k = absurd (k refl)
+    go (suc n) k = refl
+
+-- a place outside 1 to n, as reason 5 tests it
+pub outside-yes : (rec : Record) (p : ℕ) → (p ≡ 0) ⊎ (placesIn rec < p) → outside rec p .applies ≡ true
+outside-yes rec p (inl z) = ap (λ (b : Bool). b || ltb (placesIn rec) p) (eq-eqb p 0 z)
+outside-yes rec p (inr l) = ap (λ (b : Bool). eqb p 0 || b) (lt-ltb (placesIn rec) p l) ∙ or-true (eqb p 0)
+  where
+    or-true : (b : Bool) → (b || true) ≡ true
+    or-true true = refl
+    or-true false = refl
 
 module _ (rec : Record) (f : (isClosed rec ≡ false) × (isUnfit rec ≡ false)) where
   pub element-outside : (p : ℕ) → (p ≡ 0) ⊎ (placesIn rec < p) → elementAt rec p ≡ refusedElement 5
   element-outside p h =
-      element-by rec p 5 (ap numberOf (state-past rec (outside rec p ∷ []) f ∙ first-yes (outside rec p) [] (test h)))
-    where
-      or-true : (b : Bool) → (b || true) ≡ true
-      or-true true = refl
-      or-true false = refl
-
-      test : (p ≡ 0) ⊎ (placesIn rec < p) → (eqb p 0 || ltb (placesIn rec) p) ≡ true
-      test (inl z) = ap (λ (b : Bool). b || ltb (placesIn rec) p) (eq-eqb p 0 z)
-      test (inr l) = ap (λ (b : Bool). eqb p 0 || b) (lt-ltb (placesIn rec) p l) ∙ or-true (eqb p 0)
+      element-by rec p (outside rec p) (state-past rec (outside rec p ∷ []) f ∙ first-yes (outside rec p) [] (outside-yes rec p h))
 
   pub element-inside : (p : ℕ) → p ≢ 0 → p ≤ placesIn rec → elementAt rec p ≡ record { refusal = 0; place = 0; element = elementIn rec p }
   element-inside p h l =
-      element-by rec p 0
-      (ap numberOf
+      element-by rec p accepted
       (state-past rec (outside rec p ∷ []) f
       ∙ first-no (outside rec p) [] (ap₂ _||_ (ne-eqb p 0 h) (le-ltb (placesIn rec) p l))
-      ∙ first-end))
+      ∙ first-end)
 
 -- ---- what the layout crate answers for an open and fit record is the record's
 module _ (rec : Record) (f : (isClosed rec ≡ false) × (isUnfit rec ≡ false)) (s : Shape) (e : s ≡ shapeFor (rec .t) (rec .r)) where

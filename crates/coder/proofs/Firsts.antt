@@ -4,6 +4,7 @@ use mathlib.Core.Logic.{_≢_}
 use mathlib.Core.List.{List, [], _∷_, _++_}
 use mathlib.Core.Bool.{Bool, true, false}
 use Prim.Native.Nat.{ℕ}
+use Rattle.coder.specs.Claims.{NoneApplies, Given}
 use Rattle.coder.specs.Reasons.{Reason, accepted, firstReason}
 
 pub first-yes : (x : Reason) (xs : List Reason) → x .applies ≡ true → firstReason (x ∷ xs) ≡ x
@@ -18,24 +19,10 @@ pub first-end : firstReason [] ≡ accepted
 unfolding firstReason
 first-end = refl
 
--- none of the reasons applies; each of them has a number
-abbrev pub NoneApplies : List Reason → Type 0
-NoneApplies [] = Unit {0}
-NoneApplies (x ∷ xs) = (x .applies ≡ false) × NoneApplies xs
-
+-- each of the reasons has a number
 abbrev pub Numbered : List Reason → Type 0
 Numbered [] = Unit {0}
 Numbered (x ∷ xs) = (x .number ≢ 0) × Numbered xs
-
--- n is the number of a reason that applies, and none before it does
-pub record Given (rs : List Reason) (n : ℕ) : Type 0 where
-  pub before : List Reason
-  pub reason : Reason
-  pub after : List Reason
-  pub list : rs ≡ before ++ (reason ∷ after)
-  pub none : NoneApplies before
-  pub applies : reason .applies ≡ true
-  pub number : reason .number ≡ n
 
 -- a call is accepted exactly where none of its reasons applies
 pub none-accepted : (rs : List Reason) → NoneApplies rs → firstReason rs .number ≡ 0

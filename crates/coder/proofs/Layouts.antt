@@ -6,11 +6,11 @@ use Prim.Native.Nat.{ℕ, zero, suc, _≤_, _<_}
 use native.Mathlib.Omega.{arith}
 use native.Mathlib.Decide.{decLt}
 use Rattle.layout.proofs.Theorem.{layout}
-use Rattle.coder.specs.State.{placesIn, elementIn}
+use Rattle.coder.specs.State.{Fit, placesIn, elementIn}
 use Rattle.coder.specs.Calls.{elementAt}
 use Rattle.coder.specs.declared.Record.{Record}
 use Rattle.coder.specs.declared.ElementAnswer.{ElementAnswer}
-use Rattle.coder.proofs.States.{Fit, fit-true}
+use Rattle.coder.proofs.States.{fit-true}
 use Rattle.coder.proofs.Answers.{element-outside, element-inside}
 
 abbrev told : Record → ℕ → ℕ

@@ -7,23 +7,20 @@ use mathlib.Core.Bool.{Bool, true, false, _||_, not, true≢false}
 use Prim.Native.Nat.{ℕ, zero, suc, _≤_, _<_}
 use native.Mathlib.Omega.{arith}
 use lib.Dec.{eqb, ltb}
-use borrow.Author.Tests.{eqb-true, ltb-true, eq-eqb, lt-ltb}
+use borrow.Author.Tests.{eqb-true, ltb-true, eq-eqb}
 use Rattle.layout.specs.Parameters.{Admitted, admits}
 use Rattle.layout.proofs.Parameters.{admits-admitted, admitted-admits}
-use Rattle.coder.specs.State.{fresh, isUnfit, placesIn, elementIn}
+use Rattle.coder.specs.State.{Fit, fresh, isUnfit, placesIn, elementIn}
 use Rattle.coder.specs.Reasons.{Reason, firstReason, notAdmitted, outside, closed, unfit}
 use Rattle.coder.specs.Calls.{inForce, openReasons, opened, layoutReasons, elementAt}
 use Rattle.coder.specs.declared.Record.{Record}
 use Rattle.coder.specs.declared.Opened.{Opened}
-use Rattle.coder.proofs.Firsts.{NoneApplies, Numbered, Given, none-accepted, accepted-none, given-first, first-given}
-use Rattle.coder.proofs.States.{Fit, fit-true, true-fit}
-use Rattle.coder.proofs.Answers.{opened-yes, opened-no, element-inside, element-refusal}
+use Rattle.coder.specs.Claims.{Refuses}
+use Rattle.coder.proofs.Firsts.{Numbered, none-accepted, accepted-none, given-first, first-given}
+use Rattle.coder.proofs.States.{fit-true, true-fit}
+use Rattle.coder.proofs.Answers.{opened-yes, opened-no, element-inside, element-refusal, outside-yes}
 
--- ---- "for those reasons only": what a refusal x has to do with the reasons rs of its call
-pub record Refuses (x : ℕ) (rs : List Reason) : Type 0 where
-  pub accepts : (x ≡ 0) ↔ NoneApplies rs
-  pub refuses : (n : ℕ) → n ≢ 0 → (x ≡ n) ↔ Given rs n
-
+-- ---- "for those reasons only"
 by-first : (x : ℕ) (rs : List Reason) → Numbered rs → x ≡ firstReason rs .number → Refuses x rs
 by-first x rs k e = record {
   accepts = ((λ h. accepted-none rs k (sym e ∙ h)), (λ h. e ∙ none-accepted rs h));
@@ -68,22 +65,14 @@ unfit-applies rec = (
 
 -- 5: the place is 0 or beyond n
 pub outside-applies : (rec : Record) (p : ℕ) → (outside rec p .applies ≡ true) ↔ ((p ≡ 0) ⊎ (placesIn rec < p))
-outside-applies rec p = (to, back)
+outside-applies rec p = (to, outside-yes rec p)
   where
     split : (a b : Bool) → (a || b) ≡ true → (a ≡ true) ⊎ (b ≡ true)
     split true b e = inl refl
     split false b e = inr e
 
-    right : (a : Bool) → (a || true) ≡ true
-    right true = refl
-    right false = refl
-
     to : (eqb p 0 || ltb (placesIn rec) p) ≡ true → (p ≡ 0) ⊎ (placesIn rec < p)
     to e = ⊎-elim (λ y. inl (eqb-true p 0 y)) (λ y. inr (ltb-true (placesIn rec) p y)) (split (eqb p 0) (ltb (placesIn rec) p) e)
-
-    back : (p ≡ 0) ⊎ (placesIn rec < p) → (eqb p 0 || ltb (placesIn rec) p) ≡ true
-    back (inl z) = ap (λ (b : Bool). b || ltb (placesIn rec) p) (eq-eqb p 0 z)
-    back (inr l) = ap (λ (b : Bool). eqb p 0 || b) (lt-ltb (placesIn rec) p l) ∙ right (eqb p 0)
 
 -- ---- none of this is empty: every admitted pair opens, with r = t for r = 0, and the record is open and fit
 in-force : (t r : ℕ) → 2 ≤ r → inForce t r ≡ r

@@ -7,9 +7,9 @@ use Prim.Native.Nat.{ℕ, _+_}
 use native.Mathlib.Omega.{arith}
 use lib.Dec.{eqb}
 use borrow.Author.Tests.{eqb-true, eq-eqb, ne-eqb}
-use Rattle.layout.specs.Parameters.{Admitted, admits}
+use Rattle.layout.specs.Parameters.{admits}
 use Rattle.layout.proofs.Parameters.{admits-admitted, admitted-admits}
-use Rattle.coder.specs.State.{isClosed, isUnfit}
+use Rattle.coder.specs.State.{Fit, isClosed, isUnfit}
 use Rattle.coder.specs.Reasons.{Reason, firstReason, closed, unfit}
 use Rattle.coder.specs.Calls.{stateReasons}
 use Rattle.coder.specs.declared.Record.{Record}
@@ -48,10 +48,6 @@ pub state-past : (rec : Record) (rs : List Reason) → (isClosed rec ≡ false) 
 state-past rec rs h = first-no (closed rec) (unfit rec ∷ rs) (h .0) ∙ first-no (unfit rec) rs (h .1)
 
 -- ---- what 21 and 22 say
-pub record Fit (rec : Record) : Type 0 where
-  pub admitted : Admitted (rec .t) (rec .r)
-  pub sums : rec .words ≡ rec .clean + rec .«corrected_binary» + rec .«corrected_pairs»
-
 pub fit-true : (rec : Record) → Fit rec → (isClosed rec ≡ false) × (isUnfit rec ≡ false)
 unfolding isUnfit
 fit-true rec h =

@@ -1,10 +1,11 @@
 -- Document 01, "The record". Lengths and the layout are those of a record, so that callers need not know what fixes them.
 -- Assumes nothing.
+use mathlib.Core.Path.{_≡_}
 use mathlib.Core.Bool.{Bool, _&&_, _||_, not}
 use Prim.Native.Nat.{ℕ, _+_}
 use lib.Dec.{eqb}
 use Rattle.group.specs.Group.{number}
-use Rattle.layout.specs.Parameters.{admits, placesOf, messageOf, moduliFor}
+use Rattle.layout.specs.Parameters.{Admitted, admits, placesOf, messageOf, moduliFor}
 use Rattle.layout.specs.Layout as layout
 use Rattle.coder.specs.declared.Record.{Record}
 
@@ -26,6 +27,11 @@ isUnfit rec =
 -- "A record is open and fit where neither 21 nor 22 below applies to it."
 abbrev pub isFit : Record → Bool
 isFit rec = not (isClosed rec) && not (isUnfit rec)
+
+-- the same as a statement: t and r are admitted, and the counts add up (States, in proofs/, shows that the two agree)
+pub record Fit (rec : Record) : Type 0 where
+  pub admitted : Admitted (rec .t) (rec .r)
+  pub sums : rec .words ≡ rec .clean + rec .«corrected_binary» + rec .«corrected_pairs»
 
 -- n, the places of a message, and the number of the element of a place, for a record that is open and fit
 unfoldable pub placesIn : Record → ℕ

@@ -13,23 +13,19 @@ use native.Mathlib.Omega.{arith}
 use native.Mathlib.Decide.{decLt}
 use lib.Dec.{eqb, eqb→eq}
 use lib.ListN.{length, getD, List·getD-eq-default}
-use Rattle.group.specs.Group.{Modulus, one, two, four, Valid, zeros, negative, number, element, size}
+use Rattle.group.specs.Group.{Modulus, one, two, four, Valid, zeros, number, element, size}
 use Rattle.group.specs.Sign.{same, isUnit, lead}
 use Rattle.group.proofs.Laws.{radix-pos, valid-zeros, valid-negative, valid-element}
 use Rattle.group.proofs.Numbers.{element-number, element-zero, number-zeros}
 use Rattle.group.proofs.Signs.{true-T, both, not-true, same-refl, same-eq, even-own, negative-under, negative-unit-two}
 use Rattle.layout.specs.Layout.{keep, Slot, single, pair, elements, singles, pairs, under, units, message, slots, places, elementAt, placeFrom, placeOf}
+use Rattle.layout.specs.Claims.{Good}
 use Rattle.layout.specs.Gate.{hit}
 use Rattle.layout.proofs.Lists.{count, All, all-kept}
 use Rattle.layout.proofs.Cover.{ofSign, valid-elements, singles-signs, cover, cover-zero}
 use Rattle.layout.proofs.Sizes.{length-places}
 
 -- ---- the slots
-abbrev pub Good : List Modulus → List Slot → Type 0
-Good ms [] = Unit {0}
-Good ms (single e ∷ sl) = Valid ms e × (negative ms e ≡ e) × Good ms sl
-Good ms (pair z ∷ sl) = Valid ms z × (lead ms z ≡ 1) × Good ms sl
-
 good-append : (ms : List Modulus) (sl sk : List Slot) → Good ms sl → Good ms sk → Good ms (sl ++ sk)
 good-append ms [] sk g k = k
 good-append ms (single e ∷ sl) sk g k = (g .0, g .1, good-append ms sl sk (g .2) k)

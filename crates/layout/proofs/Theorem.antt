@@ -9,36 +9,12 @@ use lib.Pow.{pow-pos}
 use Rattle.group.specs.Group.{Modulus, one, two, four, number, element, size}
 use Rattle.group.proofs.Laws.{valid-element}
 use Rattle.group.proofs.Numbers.{element-number, number-element, number-zeros}
-use Rattle.layout.specs.Parameters.{Admitted, placesOf, pairsOf, messageOf, moduliFor}
-use Rattle.layout.specs.Layout.{Slot, single, pair, singles, pairs, under, units, message, slots, places, elementAt}
+use Rattle.layout.specs.Parameters.{Admitted, placesOf, moduliFor}
+use Rattle.layout.specs.Layout.{Slot, single, pair, singles, pairs, under, units, message, slots, elementAt}
 use Rattle.layout.proofs.Sizes.{twos, fours, length-message}
-use Rattle.layout.proofs.Places.{Good, good-slots, valid-at-place, one-place}
+use Rattle.layout.specs.Claims.{singleSlots, pairSlots, LayoutOf}
+use Rattle.layout.proofs.Places.{good-slots, valid-at-place, one-place}
 use Rattle.layout.proofs.Parameters.{size-for, twos-for, fours-for, singles-for, pairs-for, message-for, length-for}
-
--- the slots of each kind
-abbrev pub singleSlots : List Slot → ℕ
-singleSlots [] = 0
-singleSlots (single e ∷ sl) = suc (singleSlots sl)
-singleSlots (pair z ∷ sl) = singleSlots sl
-
-abbrev pub pairSlots : List Slot → ℕ
-pairSlots [] = 0
-pairSlots (single e ∷ sl) = pairSlots sl
-pairSlots (pair z ∷ sl) = suc (pairSlots sl)
-
-pub record LayoutOf (t r : ℕ) : Type 0 where
-  -- n places, of which k are binary and the others (n − k)/2 pairs; the message has n − t
-  pub all : length (places (moduliFor t r) (slots (moduliFor t r))) ≡ placesOf t
-  pub binary : singleSlots (slots (moduliFor t r)) ≡ placesOf r
-  pub paired : pairSlots (slots (moduliFor t r)) ≡ pairsOf t r
-  pub front : length (places (moduliFor t r) (message (moduliFor t r))) ≡ messageOf t
-  -- a single's element is its own negative; a pair's are −z and z, where z has the sign 1
-  pub good : Good (moduliFor t r) (slots (moduliFor t r))
-  -- each number from 1 to n is that of the element of exactly one place from 1 to n
-  pub once : (x : ℕ) → 0 < x → x ≤ placesOf t
-      → (p : ℕ)
-      × ((0 < p) × (p ≤ placesOf t) × (number (moduliFor t r) (elementAt (moduliFor t r) p) ≡ x))
-      × ((q : ℕ) → 0 < q → number (moduliFor t r) (elementAt (moduliFor t r) q) ≡ x → q ≡ p)
 
 -- ---- counting slots
 append-singles : (sl sk : List Slot) → singleSlots (sl ++ sk) ≡ singleSlots sl + singleSlots sk

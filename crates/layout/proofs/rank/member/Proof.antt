@@ -53,31 +53,28 @@ below-requires c κs =
     let g = c .before .before .before .before .args in
     subst (Valid (moduli (g .a) (g .b))) (sym (c .of-number .ensures)) (valid-element (moduli (g .a) (g .b)) _)
 
+-- what `below` answers is the count at the middle
+counted : (c : tie.After-below Inv-loop μ-loop)
+    → let l = c .before .before .before in
+    let g = l .before .before .args in
+    c .below .result ≡ members (g .pairs) (moduli (g .a) (g .b)) (l .loop .low + (l .loop .high - l .loop .low) / 2)
+counted c =
+    let l = c .before .before .before in
+    let g = l .before .before .args in
+    let middle = l .loop .low + (l .loop .high - l .loop .low) / 2 in
+    c .below .ensures ∙ rw (c .before .of-number .ensures) (below-number (g .pairs) (moduli (g .a) (g .b)) middle (omega arith))
+
 loop-less : tie.Need-loop-less Inv-loop μ-loop
 loop-less c = search needs
 
 loop-again : tie.Need-loop-again Inv-loop μ-loop
-loop-again c =
-    let l = c .before .before .before .before in
-    let g = l .before .before .args in
-    let ms = moduli (g .a) (g .b) in
-    let middle = l .loop .low + (l .loop .high - l .loop .low) / 2 in
-    let e : c .before .below .result ≡ members (g .pairs) ms middle =
-    c .before .below .ensures ∙ rw (c .before .before .of-number .ensures) (below-number (g .pairs) ms middle (omega arith)) in
-    (omega arith, omega arith, omega arith, omega arith)
+loop-again c = let e = counted (c .before) in (omega arith, omega arith, omega arith, omega arith)
 
 loop-less-2 : tie.Need-loop-less-2 Inv-loop μ-loop
 loop-less-2 c = search needs
 
 loop-again-2 : tie.Need-loop-again-2 Inv-loop μ-loop
-loop-again-2 c =
-    let l = c .before .before .before .before in
-    let g = l .before .before .args in
-    let ms = moduli (g .a) (g .b) in
-    let middle = l .loop .low + (l .loop .high - l .loop .low) / 2 in
-    let e : c .before .below .result ≡ members (g .pairs) ms middle =
-    c .before .below .ensures ∙ rw (c .before .before .of-number .ensures) (below-number (g .pairs) ms middle (omega arith)) in
-    (omega arith, omega arith, omega arith, omega arith)
+loop-again-2 c = let e = counted (c .before) in (omega arith, omega arith, omega arith, omega arith)
 
 of-number-requires-2 : tie.Need-of-number-requires-2 Inv-loop μ-loop
 of-number-requires-2 c κs = search needs
