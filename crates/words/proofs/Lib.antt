@@ -1,0 +1,2 @@
+-- The theorems on words.
+pub mod Table

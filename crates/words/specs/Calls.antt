@@ -1,0 +1,38 @@
+-- What the public functions of this crate answer, for any t and r and any bytes: they do nothing where t and r are not admitted or a word,
+-- a message or an output is too short. Assumes nothing.
+use mathlib.Core.Bool.{Bool, _&&_, not}
+use mathlib.Core.List.{List, [], _∷_, _++_}
+use Prim.Native.Nat.{ℕ}
+use lib.Dec.{eqb, leb}
+use lib.ListN.{length, drop}
+use Rattle.group.specs.Group.{zeros}
+use Rattle.layout.specs.Parameters.{admits, placesOf, messageOf, moduliFor}
+use Rattle.layout.specs.Layout.{slots}
+use Rattle.words.specs.Choice.{pick}
+use Rattle.words.specs.Words.{inverse}
+use Rattle.words.specs.Syndrome.{syndrome}
+use Rattle.words.specs.Coding.{encode, third}
+
+-- the syndrome of the first n bytes, or zero
+unfoldable pub syndromeFor : ℕ → ℕ → List ℕ → List ℕ
+syndromeFor t r w = pick (admits t r && leb (placesOf t) (length w)) (syndrome (moduliFor t r) w) (zeros (moduliFor t r))
+
+-- an output into which n bytes are written, the further bytes kept; or as it was
+abbrev pub written : Bool → ℕ → List ℕ → List ℕ → List ℕ
+written ok n w old = pick ok (w ++ drop n old) old
+
+unfoldable pub encodeFor : ℕ → ℕ → List ℕ → List ℕ → List ℕ
+encodeFor t r m old =
+    written (admits t r && (eqb (length m) (messageOf t) && leb (placesOf t) (length old))) (placesOf t) (encode (moduliFor t r) m) old
+
+unfoldable pub invertFor : ℕ → ℕ → List ℕ → List ℕ → List ℕ
+invertFor t r w old =
+    written (admits t r && (leb (placesOf t) (length w) && leb (placesOf t) (length old))) (placesOf t) (inverse (slots (moduliFor t r)) w) old
+
+-- whether p is a place of the code
+abbrev pub isPlace : ℕ → ℕ → Bool
+isPlace t p = leb 1 p && leb p (placesOf t)
+
+-- the third place, or 0 where i and j are not two places of the code
+unfoldable pub thirdFor : ℕ → ℕ → ℕ → ℕ → ℕ
+thirdFor t r i j = pick (admits t r && (isPlace t i && (isPlace t j && not (eqb i j)))) (third (moduliFor t r) i j) 0

@@ -1,0 +1,1 @@
+-- The words in which the theorems on words are stated. Assumes nothing.
