@@ -1,2 +1,3 @@
 -- The theorems on words.
+pub mod Reading
 pub mod Table
