@@ -136,6 +136,10 @@ there e d (x ∷ xs) n = go (there e d xs) (same e x) refl
         let r = f (omega arith) in
         (suc (r .0), omega (arith, r .1), r .2)
 
+-- no place has the element zero
+pub place-nonzero : (ms : List Modulus) (i : ℕ) → i < length (places ms (slots ms)) → getD (places ms (slots ms)) i (zeros ms) ≢ zeros ms
+place-nonzero ms i l = none-there (zeros ms) (zeros ms) (places ms (slots ms)) i (cover-zero ms) l
+
 -- ---- the place of an element
 pub place-unique : (ms : List Modulus) (e : List ℕ) (p : ℕ) → Valid ms e → e ≢ zeros ms → 0 < p → elementAt ms p ≡ e → placeOf ms e ≡ p
 unfolding placeOf elementAt

@@ -1,3 +1,4 @@
 -- The theorems on words.
 pub mod Reading
+pub mod Flips
 pub mod Table
