@@ -1,4 +1,5 @@
 -- The theorems on words.
 pub mod Reading
 pub mod Flips
+pub mod Perfect
 pub mod Table
