@@ -2,4 +2,5 @@
 pub mod Reading
 pub mod Flips
 pub mod Perfect
+pub mod Rule
 pub mod Table
