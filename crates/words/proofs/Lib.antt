@@ -3,4 +3,5 @@ pub mod Reading
 pub mod Flips
 pub mod Perfect
 pub mod Rule
+pub mod Distances
 pub mod Table

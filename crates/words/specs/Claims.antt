@@ -1,1 +1,52 @@
--- The words in which the theorems on words are stated. Assumes nothing.
+-- What the theorems on words say, for any list of moduli; proofs/ shows each of them. Assumes nothing.
+use mathlib.Core.Path.{_≡_}
+use mathlib.Core.Logic.{_≢_}
+use mathlib.Core.List.{List}
+use Prim.Native.Nat.{ℕ, _-_, _≤_, _<_}
+use lib.ListN.{length, take}
+use Rattle.group.specs.Group.{Modulus}
+use Rattle.layout.specs.Layout.{places, message, slots}
+use Rattle.words.specs.Words.{Word, flip, distance, weight, combine}
+use Rattle.words.specs.Syndrome.{Codeword, lengthOf}
+use Rattle.words.specs.Halves.{moved}
+use Rattle.words.specs.Coding.{encode, corrected, correctedPlace, onesAt, third}
+
+-- the code is perfect: exactly one codeword is within one place of w, and correction gives it and the place
+pub record PerfectAt (ms : List Modulus) (w : List ℕ) : Type 0 where
+  pub codeword : Codeword ms (corrected ms w)
+  pub near : distance (corrected ms w) w ≤ 1
+  pub only : (c : List ℕ) → Codeword ms c → distance c w ≤ 1 → c ≡ corrected ms w
+  -- the place told: the word is flipped there, and is a codeword flipped there alone; place 0 is the word itself
+  pub within : correctedPlace ms w ≤ lengthOf ms
+  pub flipped : corrected ms w ≡ flip (correctedPlace ms w) w
+  pub place : (p : ℕ) → p ≤ lengthOf ms → Codeword ms (flip p w) → p ≡ correctedPlace ms w
+
+-- combining with d carries correction along: the place moves to the other half of its pair where d differs on the two
+pub record CarriedBy (ms : List Modulus) (d w : List ℕ) : Type 0 where
+  pub corrects : corrected ms (combine (slots ms) d w) ≡ combine (slots ms) d (corrected ms w)
+  pub place : correctedPlace ms (combine (slots ms) d w) ≡ moved (slots ms) d (correctedPlace ms w)
+
+-- the places of a message
+abbrev pub messageLengthOf : List Modulus → ℕ
+messageLengthOf ms = length (places ms (message ms))
+
+-- the encoding of m is a codeword that begins with m, and the only one
+pub record EncodingOf (ms : List Modulus) (m : List ℕ) : Type 0 where
+  pub codeword : Codeword ms (encode ms m)
+  pub begins : take (messageLengthOf ms) (encode ms m) ≡ m
+  pub only : (c : List ℕ) → Codeword ms c → take (messageLengthOf ms) c ≡ m → c ≡ encode ms m
+
+-- k makes a codeword of weight 3 with i and j
+pub record ThreeAt (ms : List Modulus) (i j k : ℕ) : Type 0 where
+  pub least : 0 < k
+  pub most : k ≤ lengthOf ms
+  pub codeword : Codeword ms (onesAt (lengthOf ms) i j k)
+  pub weighs : weight (onesAt (lengthOf ms) i j k) ≡ 3
+
+-- and is the only one, another than i and j
+pub record ThirdOf (ms : List Modulus) (i j : ℕ) : Type 0 where
+  pub makes : ThreeAt ms i j (third ms i j)
+  pub only : (k : ℕ) → ThreeAt ms i j k → k ≡ third ms i j
+  pub notFirst : third ms i j ≢ i
+  pub notSecond : third ms i j ≢ j
+  pub symmetric : third ms i j ≡ third ms j i
