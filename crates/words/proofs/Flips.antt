@@ -13,7 +13,7 @@ use Rattle.group.proofs.Laws.{valid-negative, valid-times, sum-comm, sum-assoc,
 use Rattle.layout.specs.Layout.{Slot, single, pair, places}
 use Rattle.layout.specs.Claims.{Good}
 use Rattle.words.specs.Choice.{pick}
-use Rattle.words.specs.Words.{flipAt}
+use Rattle.words.specs.Words.{weight, flipAt, flip}
 use Rattle.words.specs.Syndrome.{syndromeOver}
 use Rattle.words.specs.Halves.{otherAt, movedAt}
 use Rattle.words.proofs.Reading.{Bit, off, on, Reads, none, bit, bits}
@@ -89,6 +89,63 @@ flip-reads (bit b r) (suc i) = bit b (flip-reads r i)
 flip-reads (bits b c r) zero = bits (flip-bit b) c r
 flip-reads (bits b c r) (suc zero) = bits b (flip-bit c) r
 flip-reads (bits b c r) (suc (suc i)) = bits b c (flip-reads r i)
+
+-- ---- two flips, and the bytes of a flipped word
+flip-back : {b : ℕ} → Bit b → 1 - (1 - b) ≡ b
+flip-back off = refl
+flip-back on = refl
+
+flipAt-twice : {sl : List Slot} {w : List ℕ} → Reads sl w → (i : ℕ) → flipAt i (flipAt i w) ≡ w
+unfolding flipAt
+flipAt-twice none i = refl
+flipAt-twice (bit {w = w} x r) zero = ap {B = List ℕ} (λ (b : ℕ). b ∷ w) (flip-back x)
+flipAt-twice (bit {b = b} x r) (suc i) = ap {B = List ℕ} (λ (t : List ℕ). b ∷ t) (flipAt-twice r i)
+flipAt-twice (bits {c = c} {w = w} x y r) zero = ap {B = List ℕ} (λ (b : ℕ). b ∷ c ∷ w) (flip-back x)
+flipAt-twice (bits {b = b} {w = w} x y r) (suc zero) = ap {B = List ℕ} (λ (c : ℕ). b ∷ c ∷ w) (flip-back y)
+flipAt-twice (bits {b = b} {c = c} x y r) (suc (suc i)) = ap {B = List ℕ} (λ (t : List ℕ). b ∷ c ∷ t) (flipAt-twice r i)
+
+pub flip-twice : {sl : List Slot} {w : List ℕ} → Reads sl w → (p : ℕ) → flip p (flip p w) ≡ w
+flip-twice r zero = refl
+flip-twice r (suc i) = flipAt-twice r i
+
+flipAt-comm : (w : List ℕ) (i j : ℕ) → i ≢ j → flipAt i (flipAt j w) ≡ flipAt j (flipAt i w)
+unfolding flipAt
+flipAt-comm [] i j n = refl
+flipAt-comm (b ∷ w) zero zero n = absurd (n refl)
+flipAt-comm (b ∷ w) zero (suc j) n = refl
+flipAt-comm (b ∷ w) (suc i) zero n = refl
+flipAt-comm (b ∷ w) (suc i) (suc j) n = ap {B = List ℕ} (λ (t : List ℕ). b ∷ t) (flipAt-comm w i j (λ e. n (ap suc e)))
+
+pub flip-comm : (w : List ℕ) (p q : ℕ) → p ≢ q → flip p (flip q w) ≡ flip q (flip p w)
+flip-comm w zero q n = refl
+flip-comm w (suc i) zero n = refl
+flip-comm w (suc i) (suc j) n = flipAt-comm w i j (λ e. n (ap suc e))
+
+pub length-flipAt : (w : List ℕ) (i : ℕ) → length (flipAt i w) ≡ length w
+unfolding flipAt
+length-flipAt [] i = refl
+length-flipAt (b ∷ w) zero = refl
+length-flipAt (b ∷ w) (suc i) = ap suc (length-flipAt w i)
+
+pub flipped-here : (w : List ℕ) (i : ℕ) → i < length w → getD (flipAt i w) i 0 ≡ 1 - getD w i 0
+unfolding flipAt
+flipped-here [] i h = absurd (omega arith)
+flipped-here (b ∷ w) zero h = refl
+flipped-here (b ∷ w) (suc i) h = flipped-here w i (omega arith)
+
+pub flipped-there : (w : List ℕ) (i j : ℕ) → i ≢ j → getD (flipAt i w) j 0 ≡ getD w j 0
+unfolding flipAt
+flipped-there [] i j n = refl
+flipped-there (b ∷ w) zero zero n = absurd (n refl)
+flipped-there (b ∷ w) zero (suc j) n = refl
+flipped-there (b ∷ w) (suc i) zero n = refl
+flipped-there (b ∷ w) (suc i) (suc j) n = flipped-there w i j (λ e. n (ap suc e))
+
+pub weight-flipAt : (w : List ℕ) (i : ℕ) → i < length w → getD w i 0 ≡ 0 → weight (flipAt i w) ≡ suc (weight w)
+unfolding weight flipAt
+weight-flipAt [] i h e = absurd (omega arith)
+weight-flipAt (b ∷ w) zero h e = omega arith
+weight-flipAt (b ∷ w) (suc i) h e = let k = weight-flipAt w i (omega arith) e in omega arith
 
 -- ---- what one digit's change adds
 module _ (ms : List Modulus) where

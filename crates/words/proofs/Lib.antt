@@ -4,4 +4,5 @@ pub mod Flips
 pub mod Perfect
 pub mod Rule
 pub mod Distances
+pub mod Third
 pub mod Table

@@ -1,0 +1,174 @@
+-- Two different places have exactly one third place, another than both. Assumes nothing.
+use mathlib.Core.Path.{_≡_, refl, sym, ap, _∙_}
+use mathlib.Core.Logic.{_≢_}
+use mathlib.Core.Bool.{Bool, true, false, _&&_, true≢false}
+use mathlib.Core.List.{List, [], _∷_}
+use Prim.Native.Nat.{ℕ, zero, suc, _+_, _-_, _<_, _≤_}
+use native.Mathlib.Omega.{arith}
+use native.Mathlib.Decide.{ℕ-discrete}
+use lib.Dec.{eqb, eqb→eq, eqb-refl}
+use lib.ListN.{length, getD, replicate, length-replicate}
+use Rattle.group.specs.Group.{Modulus, zeros, size}
+use Rattle.group.specs.Sign.{allZero}
+use Rattle.group.proofs.Laws.{valid-zeros, zero-sum, times-zero}
+use Rattle.group.proofs.Signs.{T-true, true-T, both, allZero-zeros, zeros-allZero}
+use Rattle.layout.specs.Layout.{Slot, single, pair, slots, places}
+use Rattle.layout.proofs.Sizes.{length-places}
+use Rattle.words.specs.Choice.{pick, least}
+use Rattle.words.specs.Words.{Bits, Word, zeroWord, weight, flipAt, flip}
+use Rattle.words.specs.Syndrome.{syndromeOver, syndrome, Codeword, lengthOf}
+use Rattle.words.specs.Coding.{isCodeword, onesAt, makesThree, third}
+use Rattle.words.specs.Claims.{ThreeAt, ThirdOf}
+use Rattle.words.proofs.Reading.{Bit, off, on, Reads, none, bit, bits, word-reads, reads-word, valid-syndrome}
+use Rattle.words.proofs.Flips.{flip-reads, flip-twice, flip-comm, length-flipAt, flipped-here, flipped-there, weight-flipAt}
+use Rattle.words.proofs.Perfect.{fault, flip-place-reads, length-word, fault-within, fault-zero, fault-only}
+
+-- ---- the least number that passes, where only one does
+pub least-only : (test : ℕ → Bool) (p k q : ℕ) → p ≤ q → q < p + k → test q ≡ true
+    → ((m : ℕ) → p ≤ m → m < p + k → test m ≡ true → m ≡ q) → least test p k ≡ q
+unfolding least
+least-only test p zero q l h t u = absurd (omega arith)
+least-only test p (suc k) q l h t u = go (test p) refl (ℕ-discrete p q) (λ n. least-only test (suc p) k q (omega (arith, n)) (omega arith) t (λ m a b c. u m (omega arith) (omega arith) c))
+  where
+    go : (b : Bool) → test p ≡ b → Dec (p ≡ q) → (p ≢ q → least test (suc p) k ≡ q) → pick (test p) p (least test (suc p) k) ≡ q
+    go true e d f = rw e (u p (omega arith) (omega arith) e)
+    go false e (yes d) f = absurd (true≢false (sym t ∙ ap test (sym d) ∙ e))
+    go false e (no n) f = rw e (f n)
+
+-- ---- the zero word
+pub zero-bits : (n : ℕ) → Bits (zeroWord n)
+zero-bits zero = tt
+zero-bits (suc n) = (omega arith, zero-bits n)
+
+zero-at : (n i : ℕ) → getD (zeroWord n) i 0 ≡ 0
+zero-at zero i = refl
+zero-at (suc n) zero = refl
+zero-at (suc n) (suc i) = zero-at n i
+
+zero-weight : (n : ℕ) → weight (zeroWord n) ≡ 0
+unfolding weight
+zero-weight zero = refl
+zero-weight (suc n) = let k = zero-weight n in omega arith
+
+zero-over : (ms : List Modulus) (sl : List Slot) → syndromeOver ms sl (zeroWord (length (places ms sl))) ≡ zeros ms
+unfolding syndromeOver places
+zero-over ms [] = refl
+zero-over ms (single e ∷ sl) = rw (times-zero ms e, zero-over ms sl) (zero-sum ms (zeros ms) (valid-zeros ms))
+zero-over ms (pair z ∷ sl) = rw (times-zero ms z, zero-over ms sl) (zero-sum ms (zeros ms) (valid-zeros ms))
+
+pub zero-syndrome : (ms : List Modulus) → syndrome ms (zeroWord (lengthOf ms)) ≡ zeros ms
+unfolding syndrome
+zero-syndrome ms =
+    let l = length-places ms in
+    let e : lengthOf ms ≡ length (places ms (slots ms)) = omega arith in
+    ap (λ (n : ℕ). syndromeOver ms (slots ms) (zeroWord n)) e ∙ zero-over ms (slots ms)
+
+pub zero-reads : (ms : List Modulus) → Reads (slots ms) (zeroWord (lengthOf ms))
+zero-reads ms = word-reads ms (record { places = length-replicate (lengthOf ms) 0; bits = zero-bits (lengthOf ms) })
+
+-- ---- ones at two places, of index i and j
+module _ (ms : List Modulus) (i j : ℕ) (hi : i < lengthOf ms) (hj : j < lengthOf ms) (n : i ≢ j) where
+  abbrev o : List ℕ
+  o = zeroWord (lengthOf ms)
+
+  abbrev pub twoOnes : List ℕ
+  twoOnes = flipAt j (flipAt i o)
+
+  r₁ : Reads (slots ms) (flipAt i o)
+  r₁ = flip-reads (zero-reads ms) i
+
+  pub two-reads : Reads (slots ms) twoOnes
+  two-reads = flip-reads r₁ j
+
+  -- no word of weight 1 or 2 is a codeword
+  one-not : (k : ℕ) → k < lengthOf ms → syndrome ms (flipAt k o) ≢ zeros ms
+  one-not k h e =
+      let a = fault-only ms o (zero-reads ms) (suc k) h e in
+      let b = fault-only ms o (zero-reads ms) 0 (omega arith) (zero-syndrome ms) in
+      omega arith
+
+  two-not : syndrome ms twoOnes ≢ zeros ms
+  two-not e =
+      let a = fault-only ms (flipAt i o) r₁ (suc j) hj e in
+      let b = fault-only ms (flipAt i o) r₁ (suc i) hi (ap (syndrome ms) (flip-twice (zero-reads ms) (suc i)) ∙ zero-syndrome ms) in
+      n (omega arith)
+
+  -- so the place that makes two ones a codeword is a third one
+  third-some : fault ms twoOnes ≢ 0
+  third-some e = two-not (ap (λ (p : ℕ). syndrome ms (flip p twoOnes)) (sym e) ∙ fault-zero ms twoOnes two-reads)
+
+  pub third-second : fault ms twoOnes ≢ suc j
+  third-second e =
+      one-not i hi
+      (ap (syndrome ms) (sym (flip-twice r₁ (suc j))) ∙ ap (λ (p : ℕ). syndrome ms (flip p twoOnes)) (sym e) ∙ fault-zero ms twoOnes two-reads)
+
+  pub third-first : fault ms twoOnes ≢ suc i
+  third-first e =
+      one-not j hj
+      (ap (syndrome ms) (sym (flip-twice (flip-reads (zero-reads ms) j) (suc i)) ∙ ap (flip (suc i)) (flip-comm o (suc i) (suc j) (λ k. n (back k))))
+      ∙ ap (λ (p : ℕ). syndrome ms (flip p twoOnes)) (sym e) ∙ fault-zero ms twoOnes two-reads)
+    where
+      back : suc i ≡ suc j → i ≡ j
+      back k = omega arith
+
+  three : (k : ℕ) → k < lengthOf ms → k ≢ i → k ≢ j → weight (flipAt k twoOnes) ≡ 3
+  three k h a b =
+      let l₀ = length-replicate {A = ℕ} (lengthOf ms) 0 in
+      let l₁ = length-flipAt o i in
+      let l₂ = length-flipAt (flipAt i o) j in
+      let w₀ = zero-weight (lengthOf ms) in
+      let w₁ = weight-flipAt o i (omega arith) (zero-at (lengthOf ms) i) in
+      let w₂ = weight-flipAt (flipAt i o) j (omega arith) (flipped-there o i j n ∙ zero-at (lengthOf ms) j) in
+      let w₃ = weight-flipAt twoOnes k (omega arith)
+      (flipped-there (flipAt i o) j k (λ e. b (sym e)) ∙ flipped-there o i k (λ e. a (sym e)) ∙ zero-at (lengthOf ms) k) in
+      omega arith
+
+  pub three-fault : ThreeAt ms (suc i) (suc j) (fault ms twoOnes)
+  three-fault = go (fault ms twoOnes) refl
+    where
+      go : (p : ℕ) → fault ms twoOnes ≡ p → ThreeAt ms (suc i) (suc j) p
+      go zero e = absurd (third-some e)
+      go (suc k) e =
+          let h = fault-within ms twoOnes two-reads in
+          record {
+            least = omega arith;
+            most = omega arith;
+            codeword = record {
+              isWord = reads-word ms (flip-reads two-reads k);
+              isZero = ap (λ (p : ℕ). syndrome ms (flip p twoOnes)) (sym e) ∙ fault-zero ms twoOnes two-reads;
+            };
+            weighs = three k (omega arith) (λ x. third-first (e ∙ ap suc x)) (λ x. third-second (e ∙ ap suc x));
+          }
+
+  pub three-only : (k : ℕ) → ThreeAt ms (suc i) (suc j) k → k ≡ fault ms twoOnes
+  three-only k t = fault-only ms twoOnes two-reads k (t .most) (t .codeword .isZero)
+
+  passes : (k : ℕ) → ThreeAt ms (suc i) (suc j) k → makesThree ms (suc i) (suc j) k ≡ true
+  passes k t = rw (t .codeword .isZero, zeros-allZero ms, t .weighs)
+
+  passed : (k : ℕ) → k ≤ lengthOf ms → makesThree ms (suc i) (suc j) k ≡ true → k ≡ fault ms twoOnes
+  passed k h t =
+      let w = flip k twoOnes in
+      fault-only ms twoOnes two-reads k h (allZero-zeros ms (syndrome ms w) (valid-syndrome ms w) (both (isCodeword ms w) (eqb (weight w) 3) t .0))
+
+  pub third-fault : third ms (suc i) (suc j) ≡ fault ms twoOnes
+  unfolding third
+  third-fault =
+      let t = three-fault in
+      least-only (makesThree ms (suc i) (suc j)) 1 (lengthOf ms) (fault ms twoOnes) (t .least) (omega (arith, t .most)) (passes (fault ms twoOnes) t)
+      (λ m a b c. passed m (omega arith) c)
+
+-- ---- the theorem
+pub thirds : (ms : List Modulus) (i j : ℕ) → 0 < i → i ≤ lengthOf ms → 0 < j → j ≤ lengthOf ms → i ≢ j → ThirdOf ms i j
+thirds ms zero j a b c d n = absurd (omega arith)
+thirds ms (suc i) zero a b c d n = absurd (omega arith)
+thirds ms (suc i) (suc j) a b c d n =
+    let m : i ≢ j = λ e. n (ap suc e) in
+    let f = third-fault ms i j b d m in
+    record {
+      makes = rw f (three-fault ms i j b d m);
+      only = λ k t. three-only ms i j b d m k t ∙ sym f;
+      notFirst = λ e. third-first ms i j b d m (sym f ∙ e);
+      notSecond = λ e. third-second ms i j b d m (sym f ∙ e);
+      symmetric = f ∙ ap (fault ms) (flip-comm (zeroWord (lengthOf ms)) (suc j) (suc i) (λ e. n (sym e))) ∙ sym (third-fault ms j i d b (λ e. m (sym e)));
+    }
