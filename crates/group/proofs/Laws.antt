@@ -3,7 +3,7 @@
 use mathlib.Core.Path.{_≡_, refl, sym, ap, ap₂, _∙_}
 use mathlib.Core.List.{List, [], _∷_}
 use Prim.Native.Nat.{ℕ, suc, _+_, _-_, _*_, _/_, _%_, _<_}
-use native.Mathlib.Nat.{mod-lt, mod-add-mod, add-mod-mod, add-assoc, add-comm, zero-mul, suc-mul, zero-mod}
+use native.Mathlib.Nat.{mod-lt, mod-add-mod, add-mod-mod, mod-add-div, add-assoc, add-comm, add-mul, mul-assoc, zero-mul, suc-mul, zero-mod}
 use native.Mathlib.Omega.{arith}
 use Rattle.group.specs.Group.{Modulus, one, two, four, radix, hd, tl, Valid, zeros, sum, negative, times, element}
 
@@ -101,7 +101,39 @@ unfolding times zeros
 times-four [] x = refl
 times-four (m ∷ ms) x = ap₂ {C = List ℕ} _∷_ (four-law m (hd x)) (times-four ms (tl x))
 
+-- c + d times an element is the sum of c times it and d times it
+pub times-add : (ms : List Modulus) (c d : ℕ) (x : List ℕ) → times ms (c + d) x ≡ sum ms (times ms c x) (times ms d x)
+unfolding times sum
+times-add [] c d x = refl
+times-add (m ∷ ms) c d x =
+    ap₂ {C = List ℕ} _∷_
+    (ap (λ (n : ℕ). n % radix m) (add-mul c d (hd x))
+    ∙ sym (add-mod-mod (c * hd x) (d * hd x) (radix m))
+    ∙ sym (mod-add-mod (c * hd x) (radix m) (d * hd x % radix m)))
+    (times-add ms c d (tl x))
+
+-- d x is (d % 4) x and a multiple of 4
+rest-four : (d x : ℕ) → d * x ≡ (d % 4) * x + 4 * ((d / 4) * x)
+rest-four d x = omega (arith, ap (λ (k : ℕ). k * x) (mod-add-div d 4), add-mul (d % 4) (4 * (d / 4)) x, mul-assoc 4 (d / 4) x)
+
+rest-law : (m : Modulus) (d x : ℕ) → (d % 4) * x % radix m ≡ d * x % radix m
+rest-law one d x = let s = rest-four d x in omega arith
+rest-law two d x = let s = rest-four d x in omega arith
+rest-law four d x = let s = rest-four d x in omega arith
+
+-- only the remainder of d modulo 4 counts
+pub times-mod4 : (ms : List Modulus) (d : ℕ) (x : List ℕ) → times ms (d % 4) x ≡ times ms d x
+unfolding times
+times-mod4 [] d x = refl
+times-mod4 (m ∷ ms) d x = ap₂ {C = List ℕ} _∷_ (rest-law m d (hd x)) (times-mod4 ms d (tl x))
+
 -- ---- what follows from those laws alone
+pub sum-four : (ms : List Modulus) (x y u v : List ℕ) → sum ms (sum ms x y) (sum ms u v) ≡ sum ms (sum ms x u) (sum ms y v)
+sum-four ms x y u v =
+    sum-assoc ms x y (sum ms u v)
+    ∙ ap (sum ms x) (sym (sum-assoc ms y u v) ∙ ap (λ (r : List ℕ). sum ms r v) (sum-comm ms y u) ∙ sum-assoc ms u y v)
+    ∙ sym (sum-assoc ms x u (sum ms y v))
+
 pub sum-zero : (ms : List Modulus) (x : List ℕ) → Valid ms x → sum ms x (zeros ms) ≡ x
 sum-zero ms x h = sum-comm ms x (zeros ms) ∙ zero-sum ms x h
 

@@ -20,6 +20,7 @@ use Rattle.words.specs.Syndrome.{syndromeOver, syndrome, Codeword, lengt
 use Rattle.words.specs.Coding.{isCodeword, onesAt, makesThree, third}
 use Rattle.words.specs.Claims.{ThreeAt, ThirdOf}
 use Rattle.words.proofs.Reading.{Bit, off, on, Reads, none, bit, bits, word-reads, reads-word, valid-syndrome}
+use Rattle.words.proofs.Combining.{syndrome-zero}
 use Rattle.words.proofs.Flips.{flip-reads, flip-twice, flip-comm, length-flipAt, flipped-here, flipped-there, weight-flipAt}
 use Rattle.words.proofs.Perfect.{fault, flip-place-reads, length-word, fault-within, fault-zero, fault-only}
 
@@ -50,21 +51,15 @@ unfolding weight
 zero-weight zero = refl
 zero-weight (suc n) = let k = zero-weight n in omega arith
 
-zero-over : (ms : List Modulus) (sl : List Slot) → syndromeOver ms sl (zeroWord (length (places ms sl))) ≡ zeros ms
-unfolding syndromeOver places
-zero-over ms [] = refl
-zero-over ms (single e ∷ sl) = rw (times-zero ms e, zero-over ms sl) (zero-sum ms (zeros ms) (valid-zeros ms))
-zero-over ms (pair z ∷ sl) = rw (times-zero ms z, zero-over ms sl) (zero-sum ms (zeros ms) (valid-zeros ms))
-
 pub zero-syndrome : (ms : List Modulus) → syndrome ms (zeroWord (lengthOf ms)) ≡ zeros ms
 unfolding syndrome
 zero-syndrome ms =
     let l = length-places ms in
     let e : lengthOf ms ≡ length (places ms (slots ms)) = omega arith in
-    ap (λ (n : ℕ). syndromeOver ms (slots ms) (zeroWord n)) e ∙ zero-over ms (slots ms)
+    ap (λ (n : ℕ). syndromeOver ms (slots ms) (zeroWord n)) e ∙ syndrome-zero ms (slots ms)
 
-pub zero-reads : (ms : List Modulus) → Reads (slots ms) (zeroWord (lengthOf ms))
-zero-reads ms = word-reads ms (record { places = length-replicate (lengthOf ms) 0; bits = zero-bits (lengthOf ms) })
+pub zero-word : (ms : List Modulus) → Reads (slots ms) (zeroWord (lengthOf ms))
+zero-word ms = word-reads ms (record { places = length-replicate (lengthOf ms) 0; bits = zero-bits (lengthOf ms) })
 
 -- ---- ones at two places, of index i and j
 module _ (ms : List Modulus) (i j : ℕ) (hi : i < lengthOf ms) (hj : j < lengthOf ms) (n : i ≢ j) where
@@ -75,7 +70,7 @@ module _ (ms : List Modulus) (i j : ℕ) (hi : i < lengthOf ms) (hj : j < length
   twoOnes = flipAt j (flipAt i o)
 
   r₁ : Reads (slots ms) (flipAt i o)
-  r₁ = flip-reads (zero-reads ms) i
+  r₁ = flip-reads (zero-word ms) i
 
   pub two-reads : Reads (slots ms) twoOnes
   two-reads = flip-reads r₁ j
@@ -83,14 +78,14 @@ module _ (ms : List Modulus) (i j : ℕ) (hi : i < lengthOf ms) (hj : j < length
   -- no word of weight 1 or 2 is a codeword
   one-not : (k : ℕ) → k < lengthOf ms → syndrome ms (flipAt k o) ≢ zeros ms
   one-not k h e =
-      let a = fault-only ms o (zero-reads ms) (suc k) h e in
-      let b = fault-only ms o (zero-reads ms) 0 (omega arith) (zero-syndrome ms) in
+      let a = fault-only ms o (zero-word ms) (suc k) h e in
+      let b = fault-only ms o (zero-word ms) 0 (omega arith) (zero-syndrome ms) in
       omega arith
 
   two-not : syndrome ms twoOnes ≢ zeros ms
   two-not e =
       let a = fault-only ms (flipAt i o) r₁ (suc j) hj e in
-      let b = fault-only ms (flipAt i o) r₁ (suc i) hi (ap (syndrome ms) (flip-twice (zero-reads ms) (suc i)) ∙ zero-syndrome ms) in
+      let b = fault-only ms (flipAt i o) r₁ (suc i) hi (ap (syndrome ms) (flip-twice (zero-word ms) (suc i)) ∙ zero-syndrome ms) in
       n (omega arith)
 
   -- so the place that makes two ones a codeword is a third one
@@ -105,7 +100,7 @@ module _ (ms : List Modulus) (i j : ℕ) (hi : i < lengthOf ms) (hj : j < length
   pub third-first : fault ms twoOnes ≢ suc i
   third-first e =
       one-not j hj
-      (ap (syndrome ms) (sym (flip-twice (flip-reads (zero-reads ms) j) (suc i)) ∙ ap (flip (suc i)) (flip-comm o (suc i) (suc j) (λ k. n (back k))))
+      (ap (syndrome ms) (sym (flip-twice (flip-reads (zero-word ms) j) (suc i)) ∙ ap (flip (suc i)) (flip-comm o (suc i) (suc j) (λ k. n (back k))))
       ∙ ap (λ (p : ℕ). syndrome ms (flip p twoOnes)) (sym e) ∙ fault-zero ms twoOnes two-reads)
     where
       back : suc i ≡ suc j → i ≡ j
