@@ -10,4 +10,6 @@ pub mod Distances
 pub mod Carrying
 pub mod Encoding
 pub mod Third
+pub mod OtherHalf
+pub mod Ones
 pub mod Table

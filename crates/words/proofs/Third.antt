@@ -41,7 +41,7 @@ pub zero-bits : (n : ℕ) → Bits (zeroWord n)
 zero-bits zero = tt
 zero-bits (suc n) = (omega arith, zero-bits n)
 
-zero-at : (n i : ℕ) → getD (zeroWord n) i 0 ≡ 0
+pub zero-at : (n i : ℕ) → getD (zeroWord n) i 0 ≡ 0
 zero-at zero i = refl
 zero-at (suc n) zero = refl
 zero-at (suc n) (suc i) = zero-at n i
@@ -82,7 +82,7 @@ module _ (ms : List Modulus) (i j : ℕ) (hi : i < lengthOf ms) (hj : j < length
       let b = fault-only ms o (zero-word ms) 0 (omega arith) (zero-syndrome ms) in
       omega arith
 
-  two-not : syndrome ms twoOnes ≢ zeros ms
+  pub two-not : syndrome ms twoOnes ≢ zeros ms
   two-not e =
       let a = fault-only ms (flipAt i o) r₁ (suc j) hj e in
       let b = fault-only ms (flipAt i o) r₁ (suc i) hi (ap (syndrome ms) (flip-twice (zero-word ms) (suc i)) ∙ zero-syndrome ms) in
