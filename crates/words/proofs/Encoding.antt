@@ -5,15 +5,18 @@ use mathlib.Core.List.{List, [], _∷_, _++_, map}
 use Prim.Native.Nat.{ℕ, _<_}
 use native.Mathlib.Omega.{arith}
 use lib.ListN.{length, take, drop, take-append-drop}
+use lib.Seq.{take-append-seam}
 use Rattle.group.specs.Group.{Modulus, one, two, four, radix, hd, tl, Valid, zeros, sum, negative, times}
 use Rattle.group.proofs.Laws.{valid-negative, zero-sum, sum-assoc, sum-negative, negative-unique}
 use Rattle.group.proofs.Signs.{zeros-cons}
 use Rattle.group.proofs.Unit.{times-under, sum-under, unit-sum}
 use Rattle.layout.specs.Layout.{Slot, single, pair, under, units, message, slots, places}
 use Rattle.words.specs.Digits.{digit}
-use Rattle.words.specs.Syndrome.{syndromeOver, syndrome}
+use Rattle.words.specs.Words.{Word}
+use Rattle.words.specs.Syndrome.{syndromeOver, syndrome, Codeword}
 use Rattle.words.specs.Coding.{checkDigits, encode}
-use Rattle.words.proofs.Reading.{bit-le, le-bit, Reads, none, bit, bits, valid-over}
+use Rattle.words.specs.Claims.{messageLengthOf, EncodingOf}
+use Rattle.words.proofs.Reading.{bit-le, le-bit, Reads, none, bit, bits, reads, reads-length, reads-bits, word-reads, reads-word, valid-over}
 use Rattle.words.proofs.Combining.{digit-lt, gray-digit, gray-reads, syndrome-gray}
 
 -- ---- slots in two parts
@@ -136,3 +139,20 @@ encode-only ms w r e =
           (check-only ms c (s .1)
           ∙ ap (checkDigits ms) (negative-unique ms (syndromeOver ms (message ms) m) (syndromeOver ms (units ms) c) (valid-over ms (units ms) c) z)),
     )
+
+pub encodes : (ms : List Modulus) (m : List ℕ) → Word (messageLengthOf ms) m → EncodingOf ms m
+unfolding encode
+encodes ms m h =
+    let c = encode-codeword ms m (reads ms (message ms) m (h .places) (h .bits)) in
+    record {
+      codeword = record { isWord = reads-word ms (c .0); isZero = c .1 };
+      begins = ap (λ (n : ℕ). take n (encode ms m)) (sym (h .places)) ∙ take-append-seam m (checkDigits ms (negative ms (syndromeOver ms (message ms) m)));
+      only = λ d k e. encode-only ms d (word-reads ms (k .isWord)) (k .isZero) .1 ∙ ap (encode ms) e;
+    }
+
+-- every codeword is the encoding of its first places
+pub encoded : (ms : List Modulus) (c : List ℕ) → Codeword ms c
+    → Word (messageLengthOf ms) (take (messageLengthOf ms) c) × (c ≡ encode ms (take (messageLengthOf ms) c))
+encoded ms c k =
+    let e = encode-only ms c (word-reads ms (k .isWord)) (k .isZero) in
+    (record { places = reads-length ms (e .0); bits = reads-bits (e .0) }, e .1)
