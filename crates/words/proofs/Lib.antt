@@ -12,4 +12,5 @@ pub mod Encoding
 pub mod Third
 pub mod OtherHalf
 pub mod Ones
+pub mod Theorem
 pub mod Table

@@ -4,12 +4,27 @@ use mathlib.Core.Logic.{_≢_}
 use mathlib.Core.List.{List}
 use Prim.Native.Nat.{ℕ, _-_, _≤_, _<_}
 use lib.ListN.{length, take}
-use Rattle.group.specs.Group.{Modulus}
-use Rattle.layout.specs.Layout.{places, message, slots}
-use Rattle.words.specs.Words.{Word, flip, distance, weight, combine}
-use Rattle.words.specs.Syndrome.{Codeword, lengthOf}
+use Rattle.group.specs.Group.{Modulus, sum, negative}
+use Rattle.layout.specs.Parameters.{placesOf, messageOf, moduliFor}
+use Rattle.layout.specs.Layout.{places, message, slots, elementAt}
+use Rattle.words.specs.Words.{Word, zeroWord, flip, distance, weight, combine, inverse}
+use Rattle.words.specs.Syndrome.{syndrome, Codeword, lengthOf}
 use Rattle.words.specs.Halves.{moved}
 use Rattle.words.specs.Coding.{encode, corrected, correctedPlace, onesAt, third}
+
+-- combining is an abelian group law on the words of n bits, the syndrome a homomorphism to the group of elements, and the word with a single
+-- 1 at place p has the element of p
+pub record GroupOf (ms : List Modulus) : Type 0 where
+  pub closed : (x y : List ℕ) → Word (lengthOf ms) x → Word (lengthOf ms) y → Word (lengthOf ms) (combine (slots ms) x y)
+  pub commutes : (x y : List ℕ) → combine (slots ms) x y ≡ combine (slots ms) y x
+  pub associates : (x y z : List ℕ) → combine (slots ms) (combine (slots ms) x y) z ≡ combine (slots ms) x (combine (slots ms) y z)
+  pub neutral : (x : List ℕ) → Word (lengthOf ms) x → combine (slots ms) x (zeroWord (lengthOf ms)) ≡ x
+  pub inverts : (x : List ℕ) → Word (lengthOf ms) x
+      → Word (lengthOf ms) (inverse (slots ms) x) × (combine (slots ms) x (inverse (slots ms) x) ≡ zeroWord (lengthOf ms))
+  pub adds : (x y : List ℕ) → Word (lengthOf ms) x → Word (lengthOf ms) y
+      → syndrome ms (combine (slots ms) x y) ≡ sum ms (syndrome ms x) (syndrome ms y)
+  pub negates : (x : List ℕ) → Word (lengthOf ms) x → syndrome ms (inverse (slots ms) x) ≡ negative ms (syndrome ms x)
+  pub ones : (p : ℕ) → p ≤ lengthOf ms → syndrome ms (flip p (zeroWord (lengthOf ms))) ≡ elementAt ms p
 
 -- the code is perfect: exactly one codeword is within one place of w, and correction gives it and the place
 pub record PerfectAt (ms : List Modulus) (w : List ℕ) : Type 0 where
@@ -50,3 +65,13 @@ pub record ThirdOf (ms : List Modulus) (i j : ℕ) : Type 0 where
   pub notFirst : third ms i j ≢ i
   pub notSecond : third ms i j ≢ j
   pub symmetric : third ms i j ≡ third ms j i
+
+-- all of it for the code with t and r: words of n bits and messages of n − t
+pub record CodeOf (t r : ℕ) : Type 0 where
+  pub groups : GroupOf (moduliFor t r)
+  pub perfect : (w : List ℕ) → Word (placesOf t) w → PerfectAt (moduliFor t r) w
+  pub carries : (d w : List ℕ) → Codeword (moduliFor t r) d → Word (placesOf t) w → CarriedBy (moduliFor t r) d w
+  pub encodes : (m : List ℕ) → Word (messageOf t) m → EncodingOf (moduliFor t r) m
+  pub encoded : (c : List ℕ) → Codeword (moduliFor t r) c
+      → Word (messageOf t) (take (messageOf t) c) × (c ≡ encode (moduliFor t r) (take (messageOf t) c))
+  pub thirds : (i j : ℕ) → 0 < i → i ≤ placesOf t → 0 < j → j ≤ placesOf t → i ≢ j → ThirdOf (moduliFor t r) i j
