@@ -67,11 +67,11 @@ module _ (ms : List Modulus) (w : List ℕ) (r : Reads (slots ms) w) where
           → (i : ℕ) × (i < length w) × (fault ms w ≡ suc (movedAt (slots ms) w i)) × (elementAt ms (suc i) ≡ e)
       go zero h = absurd (omega (arith, h .0))
       go (suc i) h =
-          let l = length-word in
-          ( i
-          , omega (arith, h .1)
-          , ap (moved (slots ms) w) (place-unique ms e (suc i) (valid-negative ms s) nz (omega arith) (h .2))
-          , h .2
+          let l = length-word in (
+            i,
+            omega (arith, h .1),
+            ap (moved (slots ms) w) (place-unique ms e (suc i) (valid-negative ms s) nz (omega arith) (h .2)),
+            h .2,
           )
 
   pub fault-within : fault ms w ≤ lengthOf ms

@@ -20,8 +20,8 @@ use Rattle.words.proofs.Combining.{combine-reads, inverse-reads, combin
 use Rattle.words.proofs.Distances.{perfect}
 use Rattle.words.proofs.Carrying.{carried}
 use Rattle.words.proofs.Encoding.{encodes, encoded}
-use Rattle.words.proofs.Third.{thirds}
-use Rattle.words.proofs.Ones.{one-element}
+use Rattle.words.proofs.Thirds.{thirds}
+use Rattle.words.proofs.TwoOnes.{one-element}
 
 -- ---- every list of moduli
 module _ (ms : List Modulus) where

@@ -1,12 +1,13 @@
 -- What the public functions of this crate answer, for any t and r and any bytes: they do nothing where t and r are not admitted or a word,
 -- a message or an output is too short. Assumes nothing.
 use mathlib.Core.Bool.{Bool, _&&_, not}
+use mathlib.Core.Logic.{_≢_}
 use mathlib.Core.List.{List, [], _∷_, _++_}
-use Prim.Native.Nat.{ℕ}
+use Prim.Native.Nat.{ℕ, _<_, _≤_}
 use lib.Dec.{eqb, leb}
 use lib.ListN.{length, drop}
 use Rattle.group.specs.Group.{zeros}
-use Rattle.layout.specs.Parameters.{admits, placesOf, messageOf, moduliFor}
+use Rattle.layout.specs.Parameters.{Admitted, admits, placesOf, messageOf, moduliFor}
 use Rattle.layout.specs.Layout.{slots}
 use Rattle.words.specs.Choice.{pick}
 use Rattle.words.specs.Words.{inverse}
@@ -36,3 +37,12 @@ isPlace t p = leb 1 p && leb p (placesOf t)
 -- the third place, or 0 where i and j are not two places of the code
 unfoldable pub thirdFor : ℕ → ℕ → ℕ → ℕ → ℕ
 thirdFor t r i j = pick (admits t r && (isPlace t i && (isPlace t j && not (eqb i j)))) (third (moduliFor t r) i j) 0
+
+-- i and j are two places of the code
+pub record TwoPlaces (t r i j : ℕ) : Type 0 where
+  pub admitted : Admitted t r
+  pub first : 0 < i
+  pub firstMost : i ≤ placesOf t
+  pub second : 0 < j
+  pub secondMost : j ≤ placesOf t
+  pub apart : i ≢ j

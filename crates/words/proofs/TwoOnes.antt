@@ -23,7 +23,7 @@ use Rattle.words.proofs.Reading.{Reads, valid-syndrome}
 use Rattle.words.proofs.Flips.{flip-reads, flipped-here, flipped-there}
 use Rattle.words.proofs.Perfect.{fault, length-word, gains, fault-there}
 use Rattle.words.proofs.OtherHalf.{other-negative}
-use Rattle.words.proofs.Third.{zero-at, zero-syndrome, zero-word, twoOnes, two-reads, two-not, third-first, third-second, third-fault}
+use Rattle.words.proofs.Thirds.{zero-at, zero-syndrome, zero-word, twoOnes, two-reads, two-not, third-first, third-second, third-fault}
 
 -- ---- where a place moves to, by the two bytes
 module _ (sl : List Slot) (w : List ℕ) (i : ℕ) where

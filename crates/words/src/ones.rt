@@ -1,0 +1,53 @@
+// The third place of two places, told from their elements.
+ghost use mathlib.Core.Path.{_≡_};
+ghost use mathlib.Core.Bool.{_&&_};
+ghost use lib.Dec.{leb};
+ghost use Rattle.layout.specs.Parameters.{moduliFor};
+ghost use Rattle.layout.specs.Calls.{shapeFor};
+ghost use Rattle.words.specs.Words.{zeroWord, flip};
+ghost use Rattle.words.specs.Syndrome.{syndrome, lengthOf};
+ghost use Rattle.words.specs.Coding.{third};
+ghost use Rattle.words.specs.Calls.{TwoPlaces};
+use crate::halves;
+use group::Element;
+use layout::Shape;
+
+// Whether p is one of n places.
+pub(crate) fn is_place(n: u32, p: u32) -> bool
+    ensures { λ x. ⌜ x ≡ (leb 1 p && leb p n) ⌝ }
+{
+    if p == 0 { false } else { p <= n }
+}
+
+// The syndrome of the word with ones at the places i and j alone: the two halves of a pair make the
+// digit 2, and else the elements add.
+fn two_ones(t: u32, r: u32, s: Shape, i: u32, j: u32) -> Element
+    requires { ⌜ (s ≡ shapeFor t r) × TwoPlaces t r i j ⌝ }
+    ensures { λ x. ⌜ x ≡ syndrome (moduliFor t r) (flip j (flip i (zeroWord (lengthOf (moduliFor t r))))) ⌝ }
+{
+    let a = s.a;
+    let b = s.b;
+    let x = layout::element_at(t, r, i);
+    let k = halves::other_index(s, (j - 1) as usize);
+    if k == (i - 1) as usize {
+        return group::add(a, b, x, x);
+    }
+    group::add(a, b, x, layout::element_at(t, r, j))
+}
+
+// The place whose element takes that syndrome to zero, unless it is one of the two; then the other
+// half of its pair.
+pub(crate) fn third_of(t: u32, r: u32, s: Shape, i: u32, j: u32) -> u32
+    requires { ⌜ (s ≡ shapeFor t r) × TwoPlaces t r i j ⌝ }
+    ensures { λ x. ⌜ x ≡ third (moduliFor t r) i j ⌝ }
+{
+    let e = two_ones(t, r, s, i, j);
+    let k = layout::place_of(t, r, group::neg(s.a, s.b, e));
+    if k == i {
+        return layout::place_of(t, r, e);
+    }
+    if k == j {
+        return layout::place_of(t, r, e);
+    }
+    k
+}
