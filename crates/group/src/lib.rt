@@ -8,6 +8,11 @@ ghost use lib.ListN.{getD};
 ghost use Rattle.group.specs.Group.{one, radix, moduli, zeros, sum, negative, times, number, element};
 ghost use Rattle.group.specs.Sign.{same, allZero, firstOf};
 
+mod weigh;
+
+pub use weigh::Weights;
+pub use weigh::weighted;
+
 // "An element is held as its list of components."
 pub type Element = [u8; 12];
 
