@@ -49,37 +49,26 @@ gray-reads (suc zero) r = bits off on r
 gray-reads (suc (suc zero)) r = bits on on r
 gray-reads (suc (suc (suc d))) r = bits on off r
 
--- ---- words that read the slots make words that read them
-mod-bit : {a b : ℕ} → Bit a → Bit b → Bit ((a + b) % 2)
-mod-bit off off = off
-mod-bit off on = on
-mod-bit on off = on
-mod-bit on on = off
+-- ---- the group law: a word and its inverse make the zero word
+away-bit : {b : ℕ} → Bit b → (b + b) % 2 ≡ 0
+away-bit off = refl
+away-bit on = refl
 
-pub combine-reads : {sl : List Slot} {x y : List ℕ} → Reads sl x → Reads sl y → Reads sl (combine sl x y)
-unfolding combine
-combine-reads none none = none
-combine-reads (bit a r) (bit b s) = bit (mod-bit a b) (combine-reads r s)
-combine-reads (bits {b = a} {c = a′} x x′ r) (bits {b = b} {c = b′} y y′ s) = gray-reads ((digit a a′ + digit b b′) % 4) (combine-reads r s)
+-- two zeros before a word
+noughts : List ℕ → List ℕ
+noughts w = 0 ∷ 0 ∷ w
 
-pub inverse-reads : {sl : List Slot} {w : List ℕ} → Reads sl w → Reads sl (inverse sl w)
-unfolding inverse
-inverse-reads none = none
-inverse-reads (bit b r) = bit b (inverse-reads r)
-inverse-reads (bits b c r) = bits c b (inverse-reads r)
+pub combine-inverse : (ms : List Modulus) {sl : List Slot} {w : List ℕ} → Reads sl w
+    → combine sl w (inverse sl w) ≡ zeroWord (length (places ms sl))
+unfolding combine inverse places noughts
+combine-inverse ms none = refl
+combine-inverse ms (bit b r) = ap₂ {C = List ℕ} _∷_ (away-bit b) (combine-inverse ms r)
+combine-inverse ms (bits off off r) = ap noughts (combine-inverse ms r)
+combine-inverse ms (bits off on r) = ap noughts (combine-inverse ms r)
+combine-inverse ms (bits on off r) = ap noughts (combine-inverse ms r)
+combine-inverse ms (bits on on r) = ap noughts (combine-inverse ms r)
 
-pub zero-reads : (ms : List Modulus) (sl : List Slot) → Reads sl (zeroWord (length (places ms sl)))
-unfolding places
-zero-reads ms [] = none
-zero-reads ms (single e ∷ sl) = bit off (zero-reads ms sl)
-zero-reads ms (pair z ∷ sl) = bits off off (zero-reads ms sl)
-
--- ---- the group law; a sum of pairs is read as its digit
-combine-left : (z : List ℕ) (sl : List Slot) (d : ℕ) (x y : List ℕ) → d < 4
-    → combine (pair z ∷ sl) (gray d x) y ≡ gray ((d + digit (hd y) (hd (tl y))) % 4) (combine sl x (tl (tl y)))
-unfolding combine
-combine-left z sl d x y h = rw (digit-gray d x h, gray-rest d x)
-
+-- the order of two words, and of three; a sum of pairs is read as its digit
 pub combine-comm : (sl : List Slot) (x y : List ℕ) → combine sl x y ≡ combine sl y x
 unfolding combine
 combine-comm [] x y = refl
@@ -88,6 +77,11 @@ combine-comm (single e ∷ sl) x y =
 combine-comm (pair z ∷ sl) x y =
     ap₂ (λ (n : ℕ) (w : List ℕ). gray (n % 4) w)
     (add-comm (digit (hd x) (hd (tl x))) (digit (hd y) (hd (tl y)))) (combine-comm sl (tl (tl x)) (tl (tl y)))
+
+combine-left : (z : List ℕ) (sl : List Slot) (d : ℕ) (x y : List ℕ) → d < 4
+    → combine (pair z ∷ sl) (gray d x) y ≡ gray ((d + digit (hd y) (hd (tl y))) % 4) (combine sl x (tl (tl y)))
+unfolding combine
+combine-left z sl d x y h = rw (digit-gray d x h, gray-rest d x)
 
 combine-right : (z : List ℕ) (sl : List Slot) (d : ℕ) (x y : List ℕ) → d < 4
     → combine (pair z ∷ sl) x (gray d y) ≡ gray ((digit (hd x) (hd (tl x)) + d) % 4) (combine sl (tl (tl x)) y)
@@ -129,24 +123,30 @@ zero-combine ms (bits {b = b} {c = c} {w = w} x y r) =
 pub combine-zero : (ms : List Modulus) {sl : List Slot} {w : List ℕ} → Reads sl w → combine sl w (zeroWord (length (places ms sl))) ≡ w
 combine-zero ms {sl} {w} r = combine-comm sl w (zeroWord (length (places ms sl))) ∙ zero-combine ms r
 
--- a word and its inverse make the zero word
-away-bit : {b : ℕ} → Bit b → (b + b) % 2 ≡ 0
-away-bit off = refl
-away-bit on = refl
+-- ---- words that read the slots make words that read them
+mod-bit : {a b : ℕ} → Bit a → Bit b → Bit ((a + b) % 2)
+mod-bit off off = off
+mod-bit off on = on
+mod-bit on off = on
+mod-bit on on = off
 
--- two zeros before a word
-noughts : List ℕ → List ℕ
-noughts w = 0 ∷ 0 ∷ w
+pub combine-reads : {sl : List Slot} {x y : List ℕ} → Reads sl x → Reads sl y → Reads sl (combine sl x y)
+unfolding combine
+combine-reads none none = none
+combine-reads (bit a r) (bit b s) = bit (mod-bit a b) (combine-reads r s)
+combine-reads (bits {b = a} {c = a′} x x′ r) (bits {b = b} {c = b′} y y′ s) = gray-reads ((digit a a′ + digit b b′) % 4) (combine-reads r s)
 
-pub combine-inverse : (ms : List Modulus) {sl : List Slot} {w : List ℕ} → Reads sl w
-    → combine sl w (inverse sl w) ≡ zeroWord (length (places ms sl))
-unfolding combine inverse places noughts
-combine-inverse ms none = refl
-combine-inverse ms (bit b r) = ap₂ {C = List ℕ} _∷_ (away-bit b) (combine-inverse ms r)
-combine-inverse ms (bits off off r) = ap noughts (combine-inverse ms r)
-combine-inverse ms (bits off on r) = ap noughts (combine-inverse ms r)
-combine-inverse ms (bits on off r) = ap noughts (combine-inverse ms r)
-combine-inverse ms (bits on on r) = ap noughts (combine-inverse ms r)
+pub inverse-reads : {sl : List Slot} {w : List ℕ} → Reads sl w → Reads sl (inverse sl w)
+unfolding inverse
+inverse-reads none = none
+inverse-reads (bit b r) = bit b (inverse-reads r)
+inverse-reads (bits b c r) = bits c b (inverse-reads r)
+
+pub zero-reads : (ms : List Modulus) (sl : List Slot) → Reads sl (zeroWord (length (places ms sl)))
+unfolding places
+zero-reads ms [] = none
+zero-reads ms (single e ∷ sl) = bit off (zero-reads ms sl)
+zero-reads ms (pair z ∷ sl) = bits off off (zero-reads ms sl)
 
 -- ---- the syndrome
 pub syndrome-gray : (ms : List Modulus) (z : List ℕ) (sl : List Slot) (w : List ℕ) (d : ℕ) → d < 4

@@ -112,15 +112,20 @@ check-only (four ∷ ms) c (bits {b = b} {c = b′} {w = w} x y r) =
     ∙ ap (checkDigits (four ∷ ms)) (sym (syndrome-first four ms (digit b b′) w (digit-lt b b′)))
 
 -- ---- the theorems
+pub encode-zero : (ms : List Modulus) (m : List ℕ) → Reads (message ms) m → syndrome ms (encode ms m) ≡ zeros ms
+unfolding slots syndrome encode
+encode-zero ms m r =
+    let s = syndromeOver ms (message ms) m in
+    syndrome-append ms (units ms) (checkDigits ms (negative ms s)) r
+    ∙ ap (sum ms s) (syndrome-units ms (negative ms s) (valid-negative ms s))
+    ∙ sum-negative ms s
+
 pub encode-codeword : (ms : List Modulus) (m : List ℕ) → Reads (message ms) m
     → Reads (slots ms) (encode ms m) × (syndrome ms (encode ms m) ≡ zeros ms)
-unfolding slots syndrome encode
+unfolding slots encode
 encode-codeword ms m r =
     let s = syndromeOver ms (message ms) m in
-    let v = valid-negative ms s in (
-      reads-append r (check-reads ms (negative ms s) v),
-      syndrome-append ms (units ms) (checkDigits ms (negative ms s)) r ∙ ap (sum ms s) (syndrome-units ms (negative ms s) v) ∙ sum-negative ms s,
-    )
+    (reads-append r (check-reads ms (negative ms s) (valid-negative ms s)), encode-zero ms m r)
 
 -- a codeword is the encoding of its message
 pub encode-only : (ms : List Modulus) (w : List ℕ) → Reads (slots ms) w → syndrome ms w ≡ zeros ms
@@ -146,7 +151,7 @@ encodes ms m h =
     let c = encode-codeword ms m (reads ms (message ms) m (h .places) (h .bits)) in
     record {
       codeword = record { isWord = reads-word ms (c .0); isZero = c .1 };
-      begins = ap (λ (n : ℕ). take n (encode ms m)) (sym (h .places)) ∙ take-append-seam m (checkDigits ms (negative ms (syndromeOver ms (message ms) m)));
+      begins = ap (λ (n : ℕ). take n (encode ms m)) (sym (h .places)) ∙ take-append-seam m _;
       only = λ d k e. encode-only ms d (word-reads ms (k .isWord)) (k .isZero) .1 ∙ ap (encode ms) e;
     }
 

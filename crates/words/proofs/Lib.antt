@@ -1,6 +1,9 @@
 -- Words by slots: Reading (a word read slot by slot), Combining (the group of words, and the syndrome on it), Flips (one place flipped).
 -- The theorems, for every list of moduli: Perfect and Rule (the one place to flip, and that document 01's rule flips it), Distances (the code
--- is perfect), Carrying (combining carries correction along), Encoding, Thirds and TwoOnes (the third place); Table has document 01's cases.
+-- is perfect), Carrying (combining carries correction along), Encoding, Thirds (the third place). Theorem gathers them, there and for
+-- admitted t and r. Table has document 01's cases marked P.
+-- For the code: OtherHalf (the other half of a pair, by index), TwoOnes and Told (the third place from the elements of two), Writing (a loop
+-- that writes over the front of an output), Shapes (the numbers of a code), Inverting (the cases of `invert`).
 pub mod Reading
 pub mod Combining
 pub mod Flips
@@ -13,7 +16,8 @@ pub mod Thirds
 pub mod OtherHalf
 pub mod TwoOnes
 pub mod Theorem
+pub mod Table
+pub mod Told
 pub mod Writing
 pub mod Shapes
-pub mod Told
-pub mod Table
+pub mod Inverting
