@@ -2,14 +2,15 @@
 // others unused and 0. Every function answers for every input: a component out of range counts by
 // its remainder. What each one means is in specs/, its laws in proofs/Laws.antt, Numbers.antt and
 // Signs.antt. Callers rely on those laws and not on how the sums are made.
+mod sign;
+mod weigh;
+
 ghost use mathlib.Core.Path.{_≡_};
 ghost use Prim.Native.Nat.{_<_};
 ghost use lib.ListN.{getD};
 ghost use Rattle.group.specs.Group.{one, radix, moduli, zeros, sum, negative, times, number, element};
 ghost use Rattle.group.specs.Sign.{same, allZero, firstOf};
-
-mod weigh;
-
+pub use sign::sign_of;
 pub use weigh::Weights;
 pub use weigh::weighted;
 

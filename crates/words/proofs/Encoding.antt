@@ -8,8 +8,7 @@ use lib.ListN.{length, take, drop, take-append-drop}
 use lib.Seq.{take-append-seam}
 use Rattle.group.specs.Group.{Modulus, one, two, four, radix, hd, tl, Valid, zeros, sum, negative, times}
 use Rattle.group.proofs.Laws.{valid-negative, zero-sum, sum-assoc, sum-negative, negative-unique}
-use Rattle.group.proofs.Signs.{zeros-cons}
-use Rattle.group.proofs.Unit.{times-under, sum-under, unit-sum}
+use Rattle.group.proofs.Unit.{unit-sum}
 use Rattle.layout.specs.Layout.{Slot, single, pair, under, units, message, slots, places}
 use Rattle.words.specs.Digits.{digit}
 use Rattle.words.specs.Words.{Word}
@@ -17,6 +16,7 @@ use Rattle.words.specs.Syndrome.{syndromeOver, syndrome, Codeword}
 use Rattle.words.specs.Coding.{checkDigits, encode}
 use Rattle.words.specs.Claims.{messageLengthOf, EncodingOf}
 use Rattle.words.proofs.Reading.{bit-le, le-bit, Reads, none, bit, bits, reads, reads-length, reads-bits, word-reads, reads-word, valid-over}
+use Rattle.words.proofs.Syndromes.{syndrome-under}
 use Rattle.words.proofs.Combining.{digit-lt, gray-digit, gray-reads, syndrome-gray}
 
 -- ---- slots in two parts
@@ -43,18 +43,6 @@ syndrome-append ms sk c (bits {z = z} {b = b} {c = b′} {sl = sl} {w = m} x y r
     ∙ sym (sum-assoc ms (times ms (digit b b′) z) (syndromeOver ms sl m) (syndromeOver ms sk c))
 
 -- ---- the units after the first
-syndrome-under : (m : Modulus) (ms : List Modulus) (sl : List Slot) (w : List ℕ)
-    → syndromeOver (m ∷ ms) (map under sl) w ≡ 0 ∷ syndromeOver ms sl w
-unfolding syndromeOver
-syndrome-under m ms [] w = zeros-cons m ms
-syndrome-under m ms (single e ∷ sl) w =
-    ap₂ (sum (m ∷ ms)) (times-under m ms (hd w) e) (syndrome-under m ms sl (tl w))
-    ∙ sum-under m ms (times ms (hd w) e) (syndromeOver ms sl (tl w))
-syndrome-under m ms (pair z ∷ sl) w =
-    let d = digit (hd w) (hd (tl w)) in
-    ap₂ (sum (m ∷ ms)) (times-under m ms d z) (syndrome-under m ms sl (tl (tl w)))
-    ∙ sum-under m ms (times ms d z) (syndromeOver ms sl (tl (tl w)))
-
 reads-under : {sl : List Slot} {w : List ℕ} → Reads sl w → Reads (map under sl) w
 reads-under none = none
 reads-under (bit b r) = bit b (reads-under r)

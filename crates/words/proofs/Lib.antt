@@ -2,8 +2,10 @@
 -- The theorems, for every list of moduli: Perfect and Rule (the one place to flip, and that document 01's rule flips it), Distances (the code
 -- is perfect), Carrying (combining carries correction along), Encoding, Thirds (the third place). Theorem gathers them, there and for
 -- admitted t and r. Table has document 01's cases marked P.
--- For the code: OtherHalf (the other half of a pair, by index), TwoOnes and Told (the third place from the elements of two), Writing (a loop
--- that writes over the front of an output), Shapes (the numbers of a code), Inverting (the cases of `invert`).
+-- For the code: Syndromes (the syndrome of any bytes, by its parts), Walking, NextUnits and Walks (the walk over the numbers), Checking and
+-- CheckWriting (check digits read and written), OtherHalf (the other half of a pair, by index), TwoOnes and Told (the third place from the
+-- elements of two), Writing (a loop that writes over the front of an output), Shapes (the numbers of a code), Answers and Inverting (the
+-- calls by their tests).
 pub mod Reading
 pub mod Combining
 pub mod Flips
@@ -11,13 +13,20 @@ pub mod Perfect
 pub mod Rule
 pub mod Distances
 pub mod Carrying
+pub mod Syndromes
 pub mod Encoding
 pub mod Thirds
 pub mod OtherHalf
 pub mod TwoOnes
 pub mod Theorem
 pub mod Table
+pub mod Walking
+pub mod NextUnits
+pub mod Walks
+pub mod Checking
+pub mod CheckWriting
 pub mod Told
 pub mod Writing
 pub mod Shapes
+pub mod Answers
 pub mod Inverting

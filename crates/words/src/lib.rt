@@ -1,11 +1,61 @@
 // Words of a code, with no record: what is done to them place by place. Every input is answered; nothing
 // is done where t and r are not admitted or a word or an output is too short. What each function
 // answers is defined in specs/Calls.antt; the theorems on words are in proofs/Theorem.antt.
+mod check;
 mod halves;
 mod ones;
+mod walk;
 
 ghost use mathlib.Core.Path.{_≡_};
-ghost use Rattle.words.specs.Calls.{invertFor, thirdFor};
+ghost use Rattle.words.specs.Calls.{syndromeFor, encodeFor, invertFor, thirdFor};
+use group::Element;
+
+// The syndrome of the first n bytes of a word; zero where t and r are not admitted or the word is
+// shorter.
+pub fn syndrome(t: u32, r: u32, word: &[u8]) -> Element
+    ensures { λ x. ⌜ x ≡ syndromeFor t r (now (word .entry)) ⌝ }
+{
+    let s = layout::shape_of(t, r);
+    let a = s.a;
+    let b = s.b;
+    let places = s.places as usize;
+    let binary = s.binary as usize;
+    let message = s.message as usize;
+    if places == 0 {
+        return group::zero(a, b);
+    }
+    if word.len() < places {
+        return group::zero(a, b);
+    }
+    let x = walk::message_sum(a, b, places + 1, binary - a, word);
+    let y = check::read(a, b, word, message);
+    group::add(a, b, x, y)
+}
+
+// Encodes a message of its exact length into the first n bytes of an output; does nothing where t and
+// r are not admitted, the message has another length, or the output is too short.
+pub fn encode(t: u32, r: u32, message: &[u8], out: &mut [u8])
+    ensures { λ x. ⌜ now (out .exit) ≡ encodeFor t r (now (message .entry)) (now (out .entry)) ⌝ }
+{
+    let s = layout::shape_of(t, r);
+    let a = s.a;
+    let b = s.b;
+    let places = s.places as usize;
+    let binary = s.binary as usize;
+    let front = s.message as usize;
+    if places == 0 {
+        return;
+    }
+    if message.len() != front {
+        return;
+    }
+    if out.len() < places {
+        return;
+    }
+    let x = walk::message_sum(a, b, places + 1, binary - a, message);
+    check::copy(message, out);
+    check::write(a, b, group::neg(a, b, x), out, front);
+}
 
 // The inverse of a word, its first n bytes, written to the first n bytes of `out`.
 pub fn invert(t: u32, r: u32, word: &[u8], out: &mut [u8])

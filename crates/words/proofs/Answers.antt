@@ -1,0 +1,117 @@
+-- What the calls answer, by their tests: the shape of the parameters, and the lengths. Assumes nothing.
+use mathlib.Core.Path.{_≡_, refl, sym, ap, subst, _∙_}
+use mathlib.Core.Bool.{Bool, true, false, and-false}
+use mathlib.Core.List.{List, _++_, append-assoc}
+use Prim.Native.Nat.{ℕ, _+_, _-_, _*_, _^_, _<_, _≤_}
+use native.Mathlib.Omega.{arith}
+use borrow.Author.Tests.{le-leb, lt-leb, eq-eqb, ne-eqb}
+use lib.ListN.{length, take, drop, length-append, length-drop}
+use lib.Pow.{pow-mono}
+use lib.Seq.{drop-drop, take-append-seam, drop-append-seam}
+use Rattle.group.specs.Group.{Modulus, moduli, zeros, sum, negative}
+use Rattle.layout.specs.Parameters.{admits, placesOf, messageOf}
+use Rattle.layout.specs.Layout.{units, message, places}
+use Rattle.layout.specs.Gate.{gate}
+use Rattle.layout.specs.Calls.{shapeFor}
+use Rattle.layout.specs.declared.Shape.{Shape}
+use Rattle.layout.proofs.Parameters.{admits-admitted, admitted-admits, below-power, Known, moduli-known, sizes-known, zeros-for}
+use Rattle.layout.proofs.Sizes.{length-message}
+use Rattle.words.specs.Syndrome.{syndromeOver, syndrome}
+use Rattle.words.specs.Coding.{checkDigits, encode}
+use Rattle.words.specs.Calls.{syndromeFor, encodeFor}
+use Rattle.words.specs.Walk.{Laid}
+use Rattle.words.proofs.Syndromes.{syndrome-split}
+
+-- a shape with no place is that of parameters that are not admitted
+pub not-admitted : (t r : ℕ) (s : Shape) → s ≡ shapeFor t r → s .places ≡ 0 → admits t r ≡ false
+unfolding shapeFor
+not-admitted t r s e z = go (admits t r) refl
+  where
+    go : (b : Bool) → admits t r ≡ b → admits t r ≡ false
+    go true y =
+        let n : s .places ≡ placesOf t = ap (λ (x : Shape). x .places) e ∙ ap (λ (b : Bool). gate b (placesOf t)) y in
+        let h = admits-admitted t r y in
+        let p = below-power t in
+        absurd (omega arith)
+    go false y = y
+
+-- what the walk asks of the numbers of a shape
+pub laid : (t r : ℕ) (s : Shape) (n : ℕ) → Known t r s → s .message ≤ n → Laid (s .a) (s .b) (s .places + 1) (s .binary - s .a) n
+laid t r s n k h =
+    let z = sizes-known t r s k in
+    let q : 2 ^ t ≤ 2 ^ 10 = pow-mono {i = t} {j = 10} (k .admitted .most) in
+    record {
+      components = z .room;
+      all = sym (z .all);
+      few = omega (arith, k .places, q);
+      front = omega (arith, z .part);
+      enough = omega (arith, z .front);
+    }
+
+-- ---- the syndrome
+pub syndrome-none : (t r : ℕ) (w : List ℕ) (s : Shape) → s ≡ shapeFor t r → s .places ≡ 0 → zeros (moduli (s .a) (s .b)) ≡ syndromeFor t r w
+unfolding syndromeFor
+syndrome-none t r w s e z = rw (not-admitted t r s e z) (zeros-for (s .a) (s .b) _ _)
+
+pub syndrome-short : (t r : ℕ) (w : List ℕ) (s : Shape) → Known t r s → length w < s .places → zeros (moduli (s .a) (s .b)) ≡ syndromeFor t r w
+unfolding syndromeFor
+syndrome-short t r w s k h =
+    let l : length w < placesOf t = subst (λ (n : ℕ). length w < n) (k .places) h in
+    rw (lt-leb (placesOf t) (length w) l, and-false) (zeros-for (s .a) (s .b) _ _)
+
+pub syndrome-whole : (t r : ℕ) (w : List ℕ) (s : Shape) → Known t r s → s .places ≤ length w
+    → sum (moduli (s .a) (s .b)) (syndromeOver (moduli (s .a) (s .b)) (message (moduli (s .a) (s .b))) w)
+    (syndromeOver (moduli (s .a) (s .b)) (units (moduli (s .a) (s .b))) (drop (s .message) w))
+    ≡ syndromeFor t r w
+unfolding syndromeFor
+syndrome-whole t r w s k h =
+    let ms = moduli (s .a) (s .b) in
+    let z = sizes-known t r s k in
+    let l : placesOf t ≤ length w = subst (λ (n : ℕ). n ≤ length w) (k .places) h in
+    let n : s .message ≡ length (places ms (message ms)) = sym (length-message ms ∙ z .front) in
+    rw (admitted-admits t r (k .admitted), le-leb (placesOf t) (length w) l)
+    (ap (λ (i : ℕ). sum ms (syndromeOver ms (message ms) w) (syndromeOver ms (units ms) (drop i w))) n
+    ∙ sym (syndrome-split ms w)
+    ∙ ap (λ (x : List Modulus). syndrome x w) (moduli-known t r s k))
+
+-- ---- encoding
+module _ (t r : ℕ) (m old : List ℕ) (s : Shape) where
+  pub encode-none : s ≡ shapeFor t r → s .places ≡ 0 → old ≡ encodeFor t r m old
+  unfolding encodeFor
+  encode-none e z = rw (not-admitted t r s e z)
+
+  pub encode-other : Known t r s → (length m ≡ s .message → ⊥) → old ≡ encodeFor t r m old
+  unfolding encodeFor
+  encode-other k n = rw (ne-eqb (length m) (messageOf t) (λ e. n (e ∙ sym (k .message))), and-false)
+
+  pub encode-short : Known t r s → length old < s .places → old ≡ encodeFor t r m old
+  unfolding encodeFor
+  encode-short k h =
+      let l : length old < placesOf t = subst (λ (n : ℕ). length old < n) (k .places) h in
+      rw (lt-leb (placesOf t) (length old) l, and-false, and-false)
+
+  -- a message of its length, and an output that is long enough: the message is copied, and the check digits follow it
+  pub encode-whole : Known t r s → length m ≡ s .message → s .places ≤ length old → (x : List ℕ)
+      → x ≡ negative (moduli (s .a) (s .b)) (syndromeOver (moduli (s .a) (s .b)) (message (moduli (s .a) (s .b))) m)
+      → (copied : List ℕ) → copied ≡ m ++ drop (length m) old
+      → take (s .message) copied ++ (checkDigits (moduli (s .a) (s .b)) x ++ drop (s .message + (s .a + 2 * s .b)) copied) ≡ encodeFor t r m old
+  unfolding encodeFor encode
+  encode-whole k e h x p copied q =
+      let ms = moduli (s .a) (s .b) in
+      let z = sizes-known t r s k in
+      let c = s .a + 2 * s .b in
+      let l : placesOf t ≤ length old = subst (λ (n : ℕ). n ≤ length old) (k .places) h in
+      let n : length m + c ≡ placesOf t = omega (arith, z .check, k .places) in
+      let f : take (s .message) copied ≡ m = rw (q, ← e) (take-append-seam m (drop (length m) old)) in
+      let g : drop (s .message + c) copied ≡ drop (placesOf t) old =
+      rw (q, ← e)
+      (sym (drop-drop c (length m) (m ++ drop (length m) old))
+      ∙ ap (drop c) (drop-append-seam m (drop (length m) old))
+      ∙ drop-drop c (length m) old
+      ∙ ap (λ (j : ℕ). drop j old) n) in
+      rw (admitted-admits t r (k .admitted), eq-eqb (length m) (messageOf t) (e ∙ k .message), le-leb (placesOf t) (length old) l, f, g, p, ← moduli-known t r s k)
+      (sym (append-assoc m (checkDigits ms (negative ms (syndromeOver ms (message ms) m))) (drop (placesOf t) old)))
+
+-- a copy to the front of an output leaves its length
+pub copied-length : (m old copied : List ℕ) → length m ≤ length old → copied ≡ m ++ drop (length m) old → length copied ≡ length old
+copied-length m old copied h e = rw (e, length-append, length-drop) (omega arith)

@@ -1,0 +1,81 @@
+-- `words::syndrome` meets its contract: zero, or the message's part and the check's. Assumes nothing.
+use borrow.Author.Needs.{needs}
+use mathlib.Core.Path.{_∙_}
+use native.Mathlib.Omega.{arith}
+use Rattle.layout.proofs.Parameters.{Known, known, sizes-known}
+use Rattle.words.proofs.Answers.{laid, syndrome-none, syndrome-short, syndrome-whole}
+use Rattle.words.proofs.syndrome.Statement.{statement}
+use Rattle.words.proofs.syndrome.Tie as tie
+
+shape-of-requires : tie.Need-shape-of-requires
+shape-of-requires c κs = search needs
+
+cast-places : tie.Need-cast-places
+cast-places c = search needs
+
+cast-binary : tie.Need-cast-binary
+cast-binary c = search needs
+
+cast-message : tie.Need-cast-message
+cast-message c = search needs
+
+zero-requires : tie.Need-zero-requires
+zero-requires c κs = search needs
+
+returns : tie.Need-returns
+returns c =
+    let s = c .before .before .before .before .before in
+    c .zero .ensures ∙ syndrome-none _ _ _ _ (s .shape-of .ensures) (c .before .if1 .taken)
+
+zero-requires-2 : tie.Need-zero-requires-2
+zero-requires-2 c κs = search needs
+
+-- past the first test the parameters are admitted
+shaped : (c : tie.Else1) → Known (c .before .before .before .before .before .before .args .t) (c .before .before .before .before .before .before .args .r) (c .before .before .before .before .shape-of .result)
+shaped c = known _ _ _ (c .before .before .before .before .shape-of .ensures) (let h = c .if1 .left in omega arith)
+
+returns-2 : tie.Need-returns-2
+returns-2 c =
+    c .zero2 .ensures ∙ syndrome-short _ _ _ _ (shaped (c .before .before)) (c .before .if2 .taken)
+
+add-message-sum : tie.Need-add-message-sum
+add-message-sum c = search needs
+
+sub-message-sum : tie.Need-sub-message-sum
+sub-message-sum c = let z = sizes-known _ _ _ (shaped (c .before)) in omega (arith, z .part)
+
+message-sum-requires : tie.Need-message-sum-requires
+message-sum-requires c κs = let z = sizes-known _ _ _ (shaped (c .before)) in laid _ _ _ _ (shaped (c .before)) (let h = c .if2 .left in omega (arith, z .check))
+
+read-requires : tie.Need-read-requires
+read-requires c κs =
+    let z = sizes-known _ _ _ (shaped (c .before .before)) in
+    let h = c .before .if2 .left in
+    (z .room, omega (arith, z .check))
+
+add-requires : tie.Need-add-requires
+add-requires c κs = search needs
+
+returns-3 : tie.Need-returns-3
+returns-3 c =
+    let q = c .before .before .before in
+    c .add .ensures ∙ rw (c .before .before .message-sum .ensures, c .before .read .ensures) (syndrome-whole _ _ _ _ (shaped (q .before)) (q .if2 .left))
+
+pub syndrome-spec : {M : Type 1} → statement M
+syndrome-spec =
+    tie.close
+    (tie.spec
+    shape-of-requires
+    cast-places
+    cast-binary
+    cast-message
+    zero-requires
+    returns
+    zero-requires-2
+    returns-2
+    add-message-sum
+    sub-message-sum
+    message-sum-requires
+    read-requires
+    add-requires
+    returns-3)
