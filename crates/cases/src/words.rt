@@ -29,91 +29,97 @@ fn answer(a: coder::Answer) {
     number(a.place);
 }
 
+// The first n bytes.
+fn front(w: &[u8], n: usize) -> &[u8] {
+    if n <= w.len() { &w[..n] } else { w }
+}
+
 // encode record message room: refusal place output
-fn encode(code: Record, message: &[u8], room: usize) {
-    let b = bytes(message);
-    let mut out = [9u8; 32];
-    if message.len() <= 32 {
-        if room <= 32 {
-            let m = &b[..message.len()];
-            text(b"encode");
-            record(code);
-            digits(m);
-            number(room as u32);
-            answer(coder::encode(code, m, &mut out[..room]));
-            digits(&out[..room]);
-            text(b"\n");
-        }
-    }
+fn encode(code: Record, message: &[u8], room: u32) {
+    text(b"encode");
+    write_line(false, code, front(&bytes(message), message.len()), room);
 }
 
 // invert record word room: refusal place output
-fn invert(code: Record, word: &[u8], room: usize) {
-    let b = bytes(word);
+fn invert(code: Record, word: &[u8], room: u32) {
+    text(b"invert");
+    write_line(true, code, front(&bytes(word), word.len()), room);
+}
+
+fn write_line(inverse: bool, code: Record, word: &[u8], room: u32) {
+    record(code);
+    digits(word);
+    number(room);
     let mut out = [9u8; 32];
-    if word.len() <= 32 {
-        if room <= 32 {
-            let w = &b[..word.len()];
-            text(b"invert");
-            record(code);
-            digits(w);
-            number(room as u32);
-            answer(coder::invert(code, w, &mut out[..room]));
-            digits(&out[..room]);
-            text(b"\n");
-        }
+    let n = room as usize;
+    if n <= out.len() {
+        write(inverse, code, word, &mut out[..n]);
+    }
+    text(b"\n");
+}
+
+fn write(inverse: bool, code: Record, word: &[u8], out: &mut [u8]) {
+    answer(called(inverse, code, word, out));
+    digits(out);
+}
+
+fn called(inverse: bool, code: Record, word: &[u8], out: &mut [u8]) -> coder::Answer {
+    if inverse {
+        coder::invert(code, word, out)
+    } else {
+        coder::encode(code, word, out)
     }
 }
 
 // syndrome record word: refusal place element
 fn syndrome(code: Record, word: &[u8]) {
-    let b = bytes(word);
-    if word.len() <= 32 {
-        let w = &b[..word.len()];
-        text(b"syndrome");
-        record(code);
-        digits(w);
-        text(b":");
-        let a = coder::syndrome(code, w);
-        number(a.refusal);
-        number(a.place);
-        number(a.element);
-        text(b"\n");
-    }
+    syndrome_line(code, front(&bytes(word), word.len()));
+}
+
+fn syndrome_line(code: Record, word: &[u8]) {
+    text(b"syndrome");
+    record(code);
+    digits(word);
+    text(b":");
+    let a = coder::syndrome(code, word);
+    number(a.refusal);
+    number(a.place);
+    number(a.element);
+    text(b"\n");
 }
 
 // codeword record word: refusal place answer
 fn codeword(code: Record, word: &[u8]) {
-    let b = bytes(word);
-    if word.len() <= 32 {
-        let w = &b[..word.len()];
-        text(b"codeword");
-        record(code);
-        digits(w);
-        text(b":");
-        let a = coder::is_codeword(code, w);
-        number(a.refusal);
-        number(a.place);
-        if a.yes {
-            text(b" yes\n");
-        } else {
-            text(b" no\n");
-        }
+    codeword_line(code, front(&bytes(word), word.len()));
+}
+
+fn codeword_line(code: Record, word: &[u8]) {
+    text(b"codeword");
+    record(code);
+    digits(word);
+    text(b":");
+    let a = coder::is_codeword(code, word);
+    number(a.refusal);
+    number(a.place);
+    if a.yes {
+        text(b" yes\n");
+    } else {
+        text(b" no\n");
     }
 }
 
 // read record word: what is shown
 fn read(code: Record, word: &[u8]) {
-    let b = bytes(word);
-    if word.len() <= 32 {
-        let w = &b[..word.len()];
-        text(b"read");
-        record(code);
-        digits(w);
-        text(b":");
-        digits(coder::read_message(code, w));
-        text(b"\n");
-    }
+    read_line(code, front(&bytes(word), word.len()));
+}
+
+fn read_line(code: Record, word: &[u8]) {
+    text(b"read");
+    record(code);
+    digits(word);
+    text(b":");
+    digits(coder::read_message(code, word));
+    text(b"\n");
 }
 
 // third record i j: refusal place

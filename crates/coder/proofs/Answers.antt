@@ -8,7 +8,6 @@ use lib.Dec.{eqb, ltb}
 use borrow.Author.Tests.{eq-eqb, ne-eqb, lt-ltb, le-ltb}
 use Rattle.group.specs.Group.{number}
 use Rattle.layout.specs.Parameters.{admits}
-use Rattle.layout.specs.Layout as layout
 use Rattle.layout.specs.Calls.{shapeFor, elementFor}
 use Rattle.layout.specs.declared.Shape.{Shape}
 use Rattle.layout.proofs.Parameters.{Known, known-for, moduli-known, element-for}

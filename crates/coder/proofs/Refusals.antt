@@ -7,26 +7,25 @@ use mathlib.Core.Bool.{Bool, true, false, _||_, not, true≢false}
 use Prim.Native.Nat.{ℕ, zero, suc, _≤_, _<_}
 use native.Mathlib.Omega.{arith}
 use lib.Dec.{eqb, ltb}
-use borrow.Author.Tests.{eqb-true, ltb-true, eq-eqb}
+use lib.ListN.{length}
+use borrow.Author.Tests.{eqb-true, eqb-false, ltb-true, eq-eqb, ne-eqb, lt-ltb, not-true}
 use Rattle.layout.specs.Parameters.{Admitted, admits}
 use Rattle.layout.proofs.Parameters.{admits-admitted, admitted-admits}
-use Rattle.coder.specs.State.{Fit, fresh, isUnfit, placesIn, elementIn}
-use Rattle.coder.specs.Reasons.{Reason, firstReason, notAdmitted, outside, closed, unfit}
-use Rattle.coder.specs.Calls.{inForce, openReasons, opened, layoutReasons, elementAt}
+use Rattle.coder.specs.State.{Fit, fresh, isUnfit, placesIn, messageIn, elementIn}
+use Rattle.coder.specs.Reasons.{notAdmitted, wrongLength, shortOutput, badPlace, badByte, outside, equalPlaces, closed, unfit}
+use Rattle.coder.specs.Calls.{inForce, openReasons, opened, layoutReasons, elementAt, wordReasons, syndromeAnswer, codewordAnswer}
+use Rattle.coder.specs.Calls.{encodeReasons, encodeAnswer, encodeOutput, invertReasons, invertAnswer, invertOutput, thirdReasons, thirdAnswer}
+use Rattle.words.specs.Words.{Bits}
 use Rattle.coder.specs.declared.Record.{Record}
 use Rattle.coder.specs.declared.Opened.{Opened}
 use Rattle.coder.specs.Claims.{Refuses}
-use Rattle.coder.proofs.Firsts.{Numbered, none-accepted, accepted-none, given-first, first-given}
+use Rattle.coder.proofs.Firsts.{by-first}
 use Rattle.coder.proofs.States.{fit-true, true-fit}
+use Rattle.coder.proofs.Bytes.{bits-none, none-bits}
+use Rattle.coder.proofs.Outcomes.{word-numbered, write-numbered, third-numbered, encode-kept, invert-kept}
 use Rattle.coder.proofs.Answers.{opened-yes, opened-no, element-inside, element-refusal, outside-yes}
 
 -- ---- "for those reasons only"
-by-first : (x : ℕ) (rs : List Reason) → Numbered rs → x ≡ firstReason rs .number → Refuses x rs
-by-first x rs k e = record {
-  accepts = ((λ h. accepted-none rs k (sym e ∙ h)), (λ h. e ∙ none-accepted rs h));
-  refuses = λ n h. ((λ y. first-given rs n h (sym e ∙ y)), (λ g. e ∙ given-first rs n g));
-}
-
 pub open-refuses : (t r : ℕ) → Refuses (opened t r .refusal) (openReasons t r)
 unfolding opened
 open-refuses t r = by-first (opened t r .refusal) (openReasons t r) ((λ e. omega arith), tt) refl
@@ -35,6 +34,35 @@ pub layout-refuses : (rec : Record) (p : ℕ) → Refuses (elementAt rec p .refu
 layout-refuses rec p =
     by-first (elementAt rec p .refusal) (layoutReasons rec p) ((λ e. omega arith), ((λ e. omega arith), ((λ e. omega arith), tt)))
     (element-refusal rec p)
+
+pub syndrome-refuses : (rec : Record) (w : List ℕ) → Refuses (syndromeAnswer rec w .refusal) (wordReasons rec w)
+unfolding syndromeAnswer
+syndrome-refuses rec w = by-first (syndromeAnswer rec w .refusal) (wordReasons rec w) (word-numbered rec w) refl
+
+pub codeword-refuses : (rec : Record) (w : List ℕ) → Refuses (codewordAnswer rec w .refusal) (wordReasons rec w)
+unfolding codewordAnswer
+codeword-refuses rec w = by-first (codewordAnswer rec w .refusal) (wordReasons rec w) (word-numbered rec w) refl
+
+pub encode-refuses : (rec : Record) (m out : List ℕ) → Refuses (encodeAnswer rec m out .refusal) (encodeReasons rec m out)
+unfolding encodeAnswer
+encode-refuses rec m out =
+    by-first (encodeAnswer rec m out .refusal) (encodeReasons rec m out) (write-numbered rec (messageIn rec) m out) refl
+
+pub invert-refuses : (rec : Record) (w out : List ℕ) → Refuses (invertAnswer rec w out .refusal) (invertReasons rec w out)
+unfolding invertAnswer
+invert-refuses rec w out =
+    by-first (invertAnswer rec w out .refusal) (invertReasons rec w out) (write-numbered rec (placesIn rec) w out) refl
+
+pub third-refuses : (rec : Record) (i j : ℕ) → Refuses (thirdAnswer rec i j .refusal) (thirdReasons rec i j)
+unfolding thirdAnswer
+third-refuses rec i j = by-first (thirdAnswer rec i j .refusal) (thirdReasons rec i j) (third-numbered rec i j) refl
+
+-- "every buffer untouched"
+pub encode-untouched : (rec : Record) (m out : List ℕ) → encodeAnswer rec m out .refusal ≢ 0 → encodeOutput rec m out ≡ out
+encode-untouched rec m out h = sym (encode-kept rec m out (encodeAnswer rec m out) refl h)
+
+pub invert-untouched : (rec : Record) (w out : List ℕ) → invertAnswer rec w out .refusal ≢ 0 → invertOutput rec w out ≡ out
+invert-untouched rec w out h = sym (invert-kept rec w out (invertAnswer rec w out) refl h)
 
 -- ---- the reasons in document 01's words
 -- 1: t and r are not admitted
@@ -73,6 +101,28 @@ outside-applies rec p = (to, outside-yes rec p)
 
     to : (eqb p 0 || ltb (placesIn rec) p) ≡ true → (p ≡ 0) ⊎ (placesIn rec < p)
     to e = ⊎-elim (λ y. inl (eqb-true p 0 y)) (λ y. inr (ltb-true (placesIn rec) p y)) (split (eqb p 0) (ltb (placesIn rec) p) e)
+
+-- 2: the length is another
+pub length-applies : (n : ℕ) (w : List ℕ) → (wrongLength n w .applies ≡ true) ↔ (length w ≢ n)
+length-applies n w = (
+  (λ e. eqb-false (length w) n (not-true (eqb (length w) n) e)),
+  (λ h. ap not (ne-eqb (length w) n h)),
+)
+
+-- 3: the output is shorter than needed
+pub output-applies : (n room : ℕ) → (shortOutput n room .applies ≡ true) ↔ (room < n)
+output-applies n room = ((λ e. ltb-true room n e), (λ l. lt-ltb room n l))
+
+-- 4: the bytes are not all bits
+pub byte-applies : (w : List ℕ) → (badByte w .applies ≡ true) ↔ (Bits w → ⊥)
+byte-applies w = (
+  (λ e h. eqb-false (badPlace w) 0 (not-true (eqb (badPlace w) 0) e) (bits-none 1 w h)),
+  (λ h. ap not (ne-eqb (badPlace w) 0 (λ z. h (none-bits 0 w z)))),
+)
+
+-- 6: the places are equal
+pub equal-applies : (i j : ℕ) → (equalPlaces i j .applies ≡ true) ↔ (i ≡ j)
+equal-applies i j = ((λ e. eqb-true i j e), (λ e. eq-eqb i j e))
 
 -- ---- none of this is empty: every admitted pair opens, with r = t for r = 0, and the record is open and fit
 in-force : (t r : ℕ) → 2 ≤ r → inForce t r ≡ r

@@ -56,7 +56,7 @@ fit-true rec h =
       rw (admitted-admits (rec .t) (rec .r) a, ne-eqb (rec .r) 0 (omega arith), eq-eqb (rec .words) (rec .clean + rec .«corrected_binary» + rec .«corrected_pairs») (h .sums)),
     )
 
-or-false : (a b : Bool) → (a || b) ≡ false → (a ≡ false) × (b ≡ false)
+pub or-false : (a b : Bool) → (a || b) ≡ false → (a ≡ false) × (b ≡ false)
 or-false true b e = absurd (true≢false e)
 or-false false b e = (refl, e)
 

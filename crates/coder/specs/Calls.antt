@@ -2,11 +2,15 @@
 use mathlib.Core.Bool.{true, false}
 use mathlib.Core.List.{List, [], _∷_, _++_}
 use Prim.Native.Nat.{ℕ, zero, suc}
-use Rattle.coder.specs.State.{fresh, isFit, placesIn, messageIn, elementIn}
-use Rattle.coder.specs.Reasons.{Reason, firstReason, notAdmitted, outside, closed, unfit}
+use lib.ListN.{length, take, drop}
+use Rattle.words.specs.Choice.{pick}
+use Rattle.coder.specs.State.{fresh, isFit, placesIn, messageIn, elementIn, syndromeIn, numberIn, isCodewordIn, encodedIn, inverseIn, thirdIn}
+use Rattle.coder.specs.Reasons.{Reason, firstReason, notAdmitted, wrongLength, shortOutput, badByte, outside, equalPlaces, closed, unfit}
 use Rattle.coder.specs.declared.Record.{Record}
 use Rattle.coder.specs.declared.Opened.{Opened}
+use Rattle.coder.specs.declared.Answer.{Answer}
 use Rattle.coder.specs.declared.ElementAnswer.{ElementAnswer}
+use Rattle.coder.specs.declared.TestAnswer.{TestAnswer}
 
 -- what follows from a reason's number: x where the call is accepted, y where it is refused
 abbrev pub ifAccepted : {A : Type 0} → ℕ → A → A → A
@@ -54,3 +58,64 @@ wordLength rec = ifFit rec (placesIn rec)
 
 unfoldable pub messageLength : Record → ℕ
 messageLength rec = ifFit rec (messageIn rec)
+
+-- ---- a word that is read: its syndrome, and whether it is a codeword
+abbrev pub wordReasons : Record → List ℕ → List Reason
+wordReasons rec w = stateReasons rec ++ (wrongLength (placesIn rec) w ∷ badByte w ∷ [])
+
+-- "Each refusal gives its number, place 0 except for 4"; "An accepted call gives number 0, and place 0"
+abbrev pub answerOf : Reason → Answer
+answerOf x = record { refusal = x .number; place = x .place }
+
+-- "A refused syndrome or layout call gives element number 0"
+unfoldable pub syndromeAnswer : Record → List ℕ → ElementAnswer
+syndromeAnswer rec w =
+    let x = firstReason (wordReasons rec w) in
+    record { refusal = x .number; place = x .place; element = ifAccepted (x .number) (numberIn rec (syndromeIn rec w)) 0 }
+
+-- "a refused codeword test says no"
+unfoldable pub codewordAnswer : Record → List ℕ → TestAnswer
+codewordAnswer rec w =
+    let x = firstReason (wordReasons rec w) in
+    record { refusal = x .number; place = x .place; yes = ifAccepted (x .number) (isCodewordIn rec w) false }
+
+-- "Reading shows the message as the first n − t bytes of the lent codeword itself, not a copy. It shows an empty part exactly when the
+-- record or word would be refused or the word is no codeword."
+unfoldable pub shown : Record → List ℕ → List ℕ
+shown rec w = ifAccepted (firstReason (wordReasons rec w) .number) (pick (isCodewordIn rec w) (take (messageIn rec) w) []) []
+
+-- ---- an output that is written: n bytes w are asked of the caller, and room for a word
+abbrev pub writeReasons : Record → ℕ → List ℕ → List ℕ → List Reason
+writeReasons rec n w out = stateReasons rec ++ (wrongLength n w ∷ shortOutput (placesIn rec) (length out) ∷ badByte w ∷ [])
+
+-- "A longer one keeps its further bytes"; a refusal leaves "every buffer untouched"
+abbrev pub outputOf : Reason → Record → List ℕ → List ℕ → List ℕ
+outputOf x rec new old = ifAccepted (x .number) (new ++ drop (placesIn rec) old) old
+
+abbrev pub encodeReasons : Record → List ℕ → List ℕ → List Reason
+encodeReasons rec m out = writeReasons rec (messageIn rec) m out
+
+unfoldable pub encodeAnswer : Record → List ℕ → List ℕ → Answer
+encodeAnswer rec m out = answerOf (firstReason (encodeReasons rec m out))
+
+unfoldable pub encodeOutput : Record → List ℕ → List ℕ → List ℕ
+encodeOutput rec m out = outputOf (firstReason (encodeReasons rec m out)) rec (encodedIn rec m) out
+
+abbrev pub invertReasons : Record → List ℕ → List ℕ → List Reason
+invertReasons rec w out = writeReasons rec (placesIn rec) w out
+
+unfoldable pub invertAnswer : Record → List ℕ → List ℕ → Answer
+invertAnswer rec w out = answerOf (firstReason (invertReasons rec w out))
+
+unfoldable pub invertOutput : Record → List ℕ → List ℕ → List ℕ
+invertOutput rec w out = outputOf (firstReason (invertReasons rec w out)) rec (inverseIn rec w) out
+
+-- ---- the third place
+abbrev pub thirdReasons : Record → ℕ → ℕ → List Reason
+thirdReasons rec i j = stateReasons rec ++ (outside rec i ∷ outside rec j ∷ equalPlaces i j ∷ [])
+
+-- "An accepted call gives number 0, and place 0 unless it is correction or third place."
+unfoldable pub thirdAnswer : Record → ℕ → ℕ → Answer
+thirdAnswer rec i j =
+    let x = firstReason (thirdReasons rec i j) in
+    record { refusal = x .number; place = ifAccepted (x .number) (thirdIn rec i j) (x .place) }

@@ -1,15 +1,25 @@
--- The words in which the theorems on refusals are stated (demand 1: "for those reasons only"). Assumes nothing.
+-- The words in which the theorems on the calls are stated: on refusals (demand 1: "for those reasons only"), and on encoding and reading
+-- (demand 2). Assumes nothing.
 use mathlib.Core.Path.{_≡_}
-use mathlib.Core.Logic.{_≢_, _↔_}
+use mathlib.Core.Logic.{_≢_, _↔_, _⊎_}
 use mathlib.Core.List.{List, [], _∷_, _++_}
 use mathlib.Core.Bool.{true, false}
-use Prim.Native.Nat.{ℕ}
+use Prim.Native.Nat.{ℕ, _-_, _<_, _≤_}
+use lib.ListN.{length, getD, take, drop}
+use Rattle.coder.specs.State.{Fit, placesIn, messageIn, CodewordIn}
 use Rattle.coder.specs.Reasons.{Reason}
+use Rattle.coder.specs.Calls.{encodeAnswer, encodeOutput, shown}
+use Rattle.coder.specs.declared.Record.{Record}
 
 -- none of the reasons applies
 abbrev pub NoneApplies : List Reason → Type 0
 NoneApplies [] = Unit {0}
 NoneApplies (x ∷ xs) = (x .applies ≡ false) × NoneApplies xs
+
+-- one of them does
+abbrev pub SomeApplies : List Reason → Type 0
+SomeApplies [] = ⊥
+SomeApplies (x ∷ xs) = (x .applies ≡ true) ⊎ SomeApplies xs
 
 -- n is the number of a reason that applies, and none before it does
 pub record Given (rs : List Reason) (n : ℕ) : Type 0 where
@@ -26,3 +36,30 @@ pub record Given (rs : List Reason) (n : ℕ) : Type 0 where
 pub record Refuses (x : ℕ) (rs : List Reason) : Type 0 where
   pub accepts : (x ≡ 0) ↔ NoneApplies rs
   pub refuses : (n : ℕ) → n ≢ 0 → (x ≡ n) ↔ Given rs n
+
+-- the byte of a place; "Places count from 1"
+abbrev pub byteAt : List ℕ → ℕ → ℕ
+byteAt w p = getD w (p - 1) 0
+
+-- "the lowest such place": p is a place of w, its byte is above 1, and no earlier one is
+pub record Lowest (w : List ℕ) (p : ℕ) : Type 0 where
+  pub least : 1 ≤ p
+  pub most : p ≤ length w
+  pub above : 1 < byteAt w p
+  pub before : (q : ℕ) → 1 ≤ q → q < p → byteAt w q ≤ 1
+
+-- "place 0 except for 4": what the place p that a call tells has to do with its refusal x and the word w that it read
+pub record TellsPlace (x p : ℕ) (w : List ℕ) : Type 0 where
+  pub none : x ≢ 4 → p ≡ 0
+  pub lowest : x ≡ 4 → Lowest w p
+
+-- "Each message gives the one codeword that begins with it, reading that codeword shows the message": what encoding wrote into the first n
+-- bytes of an output, and what reading them shows with any open and fit record of the same t and r
+pub record Encodes (rec : Record) (m out : List ℕ) : Type 0 where
+  pub accepted : encodeAnswer rec m out ≡ record { refusal = 0; place = 0 }
+  pub codeword : CodewordIn rec (take (placesIn rec) (encodeOutput rec m out))
+  pub begins : take (messageIn rec) (encodeOutput rec m out) ≡ m
+  pub only : (c : List ℕ) → CodewordIn rec c → take (messageIn rec) c ≡ m → c ≡ take (placesIn rec) (encodeOutput rec m out)
+  pub further : drop (placesIn rec) (encodeOutput rec m out) ≡ drop (placesIn rec) out
+  pub shows : (other : Record) → Fit other → other .t ≡ rec .t → other .r ≡ rec .r
+      → shown other (take (placesIn rec) (encodeOutput rec m out)) ≡ m

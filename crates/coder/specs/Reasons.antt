@@ -2,9 +2,11 @@
 -- Assumes nothing.
 use mathlib.Core.Bool.{Bool, true, false, _||_, not}
 use mathlib.Core.List.{List, [], _∷_}
-use Prim.Native.Nat.{ℕ}
+use Prim.Native.Nat.{ℕ, suc}
 use lib.Dec.{eqb, ltb}
+use lib.ListN.{length}
 use Rattle.layout.specs.Parameters.{admits}
+use Rattle.words.specs.Choice.{pick}
 use Rattle.coder.specs.State.{isClosed, isUnfit, placesIn}
 use Rattle.coder.specs.declared.Record.{Record}
 
@@ -30,9 +32,34 @@ firstReason (x ∷ xs) = elim (x .applies) [ true ↦ x | false ↦ firstReason 
 abbrev pub notAdmitted : ℕ → ℕ → Reason
 notAdmitted t r = because 1 (not (admits t r))
 
+-- "2. A read word or message not of its exact length, an empty one too.": n bytes are asked
+abbrev pub wrongLength : ℕ → List ℕ → Reason
+wrongLength n w = because 2 (not (eqb (length w) n))
+
+-- "3. An output buffer shorter than needed.": n bytes are needed, and it has as many as room says
+abbrev pub shortOutput : ℕ → ℕ → Reason
+shortOutput n room = because 3 (ltb room n)
+
+-- the first place, counted from p, of a byte above 1, or 0
+unfoldable pub badFrom : ℕ → List ℕ → ℕ
+badFrom p [] = 0
+badFrom p (b ∷ w) = pick (ltb 1 b) p (badFrom (suc p) w)
+
+-- "the lowest such place", and "Places count from 1"
+abbrev pub badPlace : List ℕ → ℕ
+badPlace w = badFrom 1 w
+
+-- "4. A byte above 1; the lowest such place is given with it"
+abbrev pub badByte : List ℕ → Reason
+badByte w = record { number = 4; place = badPlace w; applies = not (eqb (badPlace w) 0) }
+
 -- "5. A place outside 1 to n."
 abbrev pub outside : Record → ℕ → Reason
 outside rec p = because 5 (eqb p 0 || ltb (placesIn rec) p)
+
+-- "6. Two equal places."
+abbrev pub equalPlaces : ℕ → ℕ → Reason
+equalPlaces i j = because 6 (eqb i j)
 
 -- "21. The record is closed."
 abbrev pub closed : Record → Reason

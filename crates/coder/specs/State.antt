@@ -2,11 +2,15 @@
 -- Assumes nothing.
 use mathlib.Core.Path.{_≡_}
 use mathlib.Core.Bool.{Bool, _&&_, _||_, not}
+use mathlib.Core.List.{List}
 use Prim.Native.Nat.{ℕ, _+_}
 use lib.Dec.{eqb}
 use Rattle.group.specs.Group.{number}
 use Rattle.layout.specs.Parameters.{Admitted, admits, placesOf, messageOf, moduliFor}
 use Rattle.layout.specs.Layout as layout
+use Rattle.words.specs.Words as words
+use Rattle.words.specs.Syndrome as syndromes
+use Rattle.words.specs.Coding as coding
 use Rattle.coder.specs.declared.Record.{Record}
 
 -- "Opening gives t, r (never 0) and four counts at 0: words, clean, mended binary, mended in pairs" (document 01): what it calls mended is
@@ -42,3 +46,31 @@ messageIn rec = messageOf (rec .t)
 
 unfoldable pub elementIn : Record → ℕ → ℕ
 elementIn rec p = number (moduliFor (rec .t) (rec .r)) (layout.elementAt (moduliFor (rec .t) (rec .r)) p)
+
+-- ---- what is done to words, by the code of a record that is open and fit
+-- "The syndrome of a word is the sum of its binary places times their elements and of each pair's digit times its z": the element
+unfoldable pub syndromeIn : Record → List ℕ → List ℕ
+syndromeIn rec w = syndromes.syndrome (moduliFor (rec .t) (rec .r)) w
+
+-- "It is told as an element number"
+unfoldable pub numberIn : Record → List ℕ → ℕ
+numberIn rec e = number (moduliFor (rec .t) (rec .r)) e
+
+-- "A codeword is a word of syndrome zero.": as a statement and as a test
+abbrev pub CodewordIn : Record → List ℕ → Type 0
+CodewordIn rec w = syndromes.Codeword (moduliFor (rec .t) (rec .r)) w
+
+unfoldable pub isCodewordIn : Record → List ℕ → Bool
+isCodewordIn rec w = coding.isCodeword (moduliFor (rec .t) (rec .r)) w
+
+-- "Encoding: the message, then the check digits that make the syndrome zero."
+unfoldable pub encodedIn : Record → List ℕ → List ℕ
+encodedIn rec m = coding.encode (moduliFor (rec .t) (rec .r)) m
+
+-- "The inverse swaps the two places of each pair."
+unfoldable pub inverseIn : Record → List ℕ → List ℕ
+inverseIn rec w = words.inverse (layout.slots (moduliFor (rec .t) (rec .r))) w
+
+-- "Third place: for places i and j, the one place that makes a codeword of weight 3 with them."
+unfoldable pub thirdIn : Record → ℕ → ℕ → ℕ
+thirdIn rec i j = coding.third (moduliFor (rec .t) (rec .r)) i j

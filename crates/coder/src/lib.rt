@@ -1,10 +1,15 @@
-// The calls of document 01 on a record: opening a code, and its layout one place a call. Every input is
-// answered. A refusal is a number; 0 says that the call is accepted. What each call answers is
-// defined in specs/Calls.antt; proofs/Refusals.antt has the theorems on refusals.
+// The calls of document 01 on a record. Every input is answered. A refusal is a number; 0 says that the
+// call is accepted. What each call answers is defined in specs/Calls.antt; proofs/Refusals.antt has
+// the theorems on refusals. Whether a record is open and fit is found in fit.rt, what is wrong with
+// a word, an output or a place in check.rt; the work on plain words is done by crate words.
+mod check;
+mod fit;
+
 ghost use mathlib.Core.Path.{_≡_};
-ghost use Rattle.coder.specs.State.{fresh, isUnfit};
-ghost use Rattle.coder.specs.Reasons.{firstReason};
-ghost use Rattle.coder.specs.Calls.{inForce, stateReasons, refusedElement, opened, elementAt, wordLength, messageLength};
+ghost use denote.Ref.{ptr};
+ghost use Rattle.coder.specs.State.{fresh};
+ghost use Rattle.coder.specs.Calls.{inForce, refusedElement, opened, elementAt, wordLength, messageLength, syndromeAnswer, codewordAnswer, shown};
+ghost use Rattle.coder.specs.Calls.{encodeAnswer, encodeOutput, invertAnswer, invertOutput, thirdAnswer};
 
 // Which code it is, and how many words were corrected. The last two counts are what
 // document 01 calls "mended binary" and "mended in pairs".
@@ -22,11 +27,24 @@ pub struct Opened {
     pub record: Record,
 }
 
-// The number of an element; `place` is 0.
+// `place` is 0 but with refusal 4, whose byte stands there, and where the answer is a place.
+pub struct Answer {
+    pub refusal: u32,
+    pub place: u32,
+}
+
+// The number of an element.
 pub struct ElementAnswer {
     pub refusal: u32,
     pub place: u32,
     pub element: u32,
+}
+
+// Yes or no.
+pub struct TestAnswer {
+    pub refusal: u32,
+    pub place: u32,
+    pub yes: bool,
 }
 
 // A record for the code with t and r; r = 0 means r = t. Refused with 1 where t and r are not admitted.
@@ -50,7 +68,7 @@ pub fn open(t: u32, r: u32) -> Opened
 pub fn element_at(record: Record, place: u32) -> ElementAnswer
     ensures { λ x. ⌜ x ≡ elementAt «record» place ⌝ }
 {
-    let x = state(record);
+    let x = fit::state(record);
     if x != 0 {
         return refused_element(x);
     }
@@ -78,7 +96,7 @@ pub fn element_at(record: Record, place: u32) -> ElementAnswer
 pub fn word_length(record: Record) -> u32
     ensures { λ x. ⌜ x ≡ wordLength «record» ⌝ }
 {
-    let s = lengths(record);
+    let s = fit::lengths(record);
     s.places
 }
 
@@ -86,20 +104,128 @@ pub fn word_length(record: Record) -> u32
 pub fn message_length(record: Record) -> u32
     ensures { λ x. ⌜ x ≡ messageLength «record» ⌝ }
 {
-    let s = lengths(record);
+    let s = fit::lengths(record);
     s.message
 }
 
-// The lengths of an open and fit record; no parameters have t = 0, so that any other has none.
-fn lengths(record: Record) -> layout::Shape
-    ensures { λ x. ⌜ (x .places ≡ wordLength «record») × (x .message ≡ messageLength «record») ⌝ }
+// The number of a word's syndrome. Refused with 21, 22, 2 and 4.
+pub fn syndrome(record: Record, word: &[u8]) -> ElementAnswer
+    ensures { λ x. ⌜ x ≡ syndromeAnswer «record» (now (word .entry)) ⌝ }
 {
+    let a = check::word(record, word);
+    let refusal = a.refusal;
+    let place = a.place;
+    if refusal != 0 {
+        return ElementAnswer {
+            refusal,
+            place,
+            element: 0,
+        };
+    }
     let t = record.t;
     let r = record.r;
-    if state(record) == 0 {
-        return layout::shape_of(t, r);
+    let e = words::syndrome(t, r, word);
+    let s = layout::shape_of(t, r);
+    ElementAnswer {
+        refusal,
+        place,
+        element: group::number_of(s.a, s.b, e),
     }
-    layout::shape_of(0, 0)
+}
+
+// Whether a word is a codeword. Refused with 21, 22, 2 and 4, and then it says no.
+pub fn is_codeword(record: Record, word: &[u8]) -> TestAnswer
+    ensures { λ x. ⌜ x ≡ codewordAnswer «record» (now (word .entry)) ⌝ }
+{
+    let a = check::word(record, word);
+    let refusal = a.refusal;
+    let place = a.place;
+    if refusal != 0 {
+        return TestAnswer {
+            refusal,
+            place,
+            yes: false,
+        };
+    }
+    let t = record.t;
+    let r = record.r;
+    let s = words::syndrome(t, r, word);
+    TestAnswer {
+        refusal,
+        place,
+        yes: group::is_zero(s),
+    }
+}
+
+// The message of a codeword, as the front of the word itself; empty where the codeword test does
+// not say yes.
+pub fn read_message<'a>(record: Record, word: &'a [u8]) -> &'a [u8]
+    ensures bytes { λ x. ⌜ now x ≡ shown «record» (now (word .entry)) ⌝ }
+    ensures place { λ x. ⌜ ptr x ≡ ptr (word .entry) ⌝ }
+{
+    let a = is_codeword(record, word);
+    if a.yes {
+        let m = message_bytes(record);
+        return &word[..m];
+    }
+    &word[..0]
+}
+
+// As many bytes as a message has places.
+fn message_bytes(record: Record) -> usize
+    ensures { λ x. ⌜ x ≡ messageLength «record» ⌝ }
+{
+    message_length(record) as usize
+}
+
+// The codeword of a message, at the front of `out`. Refused with 21, 22, 2, 3 and 4.
+pub fn encode(record: Record, message: &[u8], out: &mut [u8]) -> Answer
+    ensures answer { λ x. ⌜ x ≡ encodeAnswer «record» (now (message .entry)) (now (out .entry)) ⌝ }
+    ensures bytes { λ x. ⌜ now (out .exit) ≡ encodeOutput «record» (now (message .entry)) (now (out .entry)) ⌝ }
+{
+    let s = fit::lengths(record);
+    let a = check::output(record, s.message, message, s.places, out.len());
+    if a.refusal == 0 {
+        let t = record.t;
+        let r = record.r;
+        words::encode(t, r, message, out);
+    }
+    a
+}
+
+// The inverse of a word, at the front of `out`. Refused with 21, 22, 2, 3 and 4.
+pub fn invert(record: Record, word: &[u8], out: &mut [u8]) -> Answer
+    ensures answer { λ x. ⌜ x ≡ invertAnswer «record» (now (word .entry)) (now (out .entry)) ⌝ }
+    ensures bytes { λ x. ⌜ now (out .exit) ≡ invertOutput «record» (now (word .entry)) (now (out .entry)) ⌝ }
+{
+    let s = fit::lengths(record);
+    let n = s.places;
+    let a = check::output(record, n, word, n, out.len());
+    if a.refusal == 0 {
+        let t = record.t;
+        let r = record.r;
+        words::invert(t, r, word, out);
+    }
+    a
+}
+
+// The place that makes a codeword of weight 3 with the places i and j. Refused with 21, 22, 5 and 6.
+pub fn third_place(record: Record, i: u32, j: u32) -> Answer
+    ensures { λ x. ⌜ x ≡ thirdAnswer «record» i j ⌝ }
+{
+    let x = check::places(record, i, j);
+    if x != 0 {
+        return Answer {
+            refusal: x,
+            place: 0,
+        };
+    }
+    let t = record.t;
+    let r = record.r;
+    Answer {
+        refusal: 0,
+        place: words::third(t, r, i, j),
+    }
 }
 
 // The r that opening takes.
@@ -130,37 +256,4 @@ fn refused_element(number: u32) -> ElementAnswer
         place: 0,
         element: 0,
     }
-}
-
-// 21 where the record is closed, 22 where it is unfit, and 0.
-fn state(record: Record) -> u32
-    ensures { λ x. ⌜ x ≡ firstReason (stateReasons «record») .number ⌝ }
-{
-    let t = record.t;
-    if t == 0 {
-        return 21;
-    }
-    if unfit(record) {
-        return 22;
-    }
-    0
-}
-
-// Whether an open record is unfit; the counts are summed as whole numbers.
-fn unfit(record: Record) -> bool
-    ensures { λ x. ⌜ x ≡ isUnfit «record» ⌝ }
-{
-    let t = record.t;
-    let r = record.r;
-    if layout::admitted(t, r) {
-        if r == 0 {
-            return true;
-        }
-        let clean = record.clean as u64;
-        let binary = record.corrected_binary as u64;
-        let pairs = record.corrected_pairs as u64;
-        let words = record.words as u64;
-        return words != clean + binary + pairs;
-    }
-    true
 }

@@ -8,13 +8,6 @@ use Rattle.coder.proofs.States.{state-fit}
 use Rattle.coder.proofs.Answers.{element-state, element-outside, element-inside, shape-places, shape-element}
 use Rattle.coder.proofs.element_at.Statement.{statement}
 use Rattle.coder.proofs.element_at.Tie as tie
-use Rattle.coder.proofs.element_at.Reads as reads
-use Rattle.coder.proofs.element_at.Lts as lts
-use Rattle.coder.proofs.refused_element.Reads as refused-element-reads
-use Rattle.coder.proofs.state.Reads as state-reads
-use Rattle.group.proofs.number_of.Reads as number-of-reads
-use Rattle.layout.proofs.element_at.Reads as element-at-reads
-use Rattle.layout.proofs.shape_of.Reads as shape-of-reads
 
 state-requires : tie.Need-state-requires
 state-requires c κs = search needs

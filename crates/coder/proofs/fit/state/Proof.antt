@@ -1,4 +1,4 @@
--- `coder::state` meets its contract. Assumes nothing.
+-- `coder::fit::state` meets its contract. Assumes nothing.
 use borrow.Author.Needs.{needs}
 use borrow.Author.Tests.{eq-eqb, ne-eqb}
 use mathlib.Core.Path.{sym, ap, _∙_}
@@ -6,11 +6,8 @@ use mathlib.Core.List.{[]}
 use Prim.Native.Nat.{ℕ}
 use Rattle.coder.specs.Reasons.{Reason, closed, unfit}
 use Rattle.coder.proofs.Firsts.{first-yes, first-no, first-end}
-use Rattle.coder.proofs.state.Statement.{statement}
-use Rattle.coder.proofs.state.Tie as tie
-use Rattle.coder.proofs.state.Reads as reads
-use Rattle.coder.proofs.state.Lts as lts
-use Rattle.coder.proofs.unfit.Reads as unfit-reads
+use Rattle.coder.proofs.fit.state.Statement.{statement}
+use Rattle.coder.proofs.fit.state.Tie as tie
 
 abbrev numberOf : Reason → ℕ
 numberOf x = x .number

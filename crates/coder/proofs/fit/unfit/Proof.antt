@@ -1,13 +1,10 @@
--- `coder::unfit` meets its contract. Assumes nothing.
+-- `coder::fit::unfit` meets its contract. Assumes nothing.
 use borrow.Author.Needs.{needs}
 use borrow.Author.Tests.{eq-eqb, ne-eqb}
 use mathlib.Core.Path.{sym, _∙_}
 use Rattle.coder.specs.State.{isUnfit}
-use Rattle.coder.proofs.unfit.Statement.{statement}
-use Rattle.coder.proofs.unfit.Tie as tie
-use Rattle.coder.proofs.unfit.Reads as reads
-use Rattle.coder.proofs.unfit.Lts as lts
-use Rattle.layout.proofs.admitted.Reads as admitted-reads
+use Rattle.coder.proofs.fit.unfit.Statement.{statement}
+use Rattle.coder.proofs.fit.unfit.Tie as tie
 
 admitted-requires : tie.Need-admitted-requires
 admitted-requires c κs = search needs

@@ -1,8 +1,8 @@
--- `cases::elements` ends. Assumes nothing.
+-- `cases::layouts::elements` ends. Assumes nothing.
 use borrow.Author.Needs.{needs}
 use Prim.Native.Nat.{_-_, _≤_}
-use Rattle.cases.proofs.elements.Statement.{statement}
-use Rattle.cases.proofs.elements.Tie as tie
+use Rattle.cases.proofs.layouts.elements.Statement.{statement}
+use Rattle.cases.proofs.layouts.elements.Tie as tie
 
 abbrev Inv-loop : tie.InvT-loop
 Inv-loop code n p₀ p = p ≤ n

@@ -1,4 +1,4 @@
--- `coder::lengths` meets its contract: the shape of the record's parameters, or that of none. Assumes nothing.
+-- `coder::fit::lengths` meets its contract: the shape of the record's parameters, or that of none. Assumes nothing.
 use borrow.Author.Needs.{needs}
 use mathlib.Core.Path.{sym, ap, _∙_}
 use Rattle.layout.specs.Parameters.{admits}
@@ -8,8 +8,8 @@ use Rattle.coder.specs.State.{placesIn, messageIn}
 use Rattle.coder.specs.Calls.{wordLength, messageLength}
 use Rattle.coder.proofs.States.{state-fit}
 use Rattle.coder.proofs.Answers.{shape-places, shape-message, fit-length, unfit-length}
-use Rattle.coder.proofs.lengths.Statement.{statement}
-use Rattle.coder.proofs.lengths.Tie as tie
+use Rattle.coder.proofs.fit.lengths.Statement.{statement}
+use Rattle.coder.proofs.fit.lengths.Tie as tie
 
 state-requires : tie.Need-state-requires
 state-requires c κs = search needs

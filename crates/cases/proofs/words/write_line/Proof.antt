@@ -1,0 +1,47 @@
+-- `cases::words::write_line` is safe: the output lies within the buffer. Assumes nothing.
+use borrow.Author.Needs.{needs}
+use mathlib.Core.Path.{sym}
+use lib.Seq.{length-take-le}
+use Rattle.cases.proofs.words.write_line.Statement.{statement}
+use Rattle.cases.proofs.words.write_line.Tie as tie
+
+record-requires : tie.Need-record-requires
+record-requires c κs = search needs
+
+digits-requires : tie.Need-digits-requires
+digits-requires c κs = search needs
+
+number-requires : tie.Need-number-requires
+number-requires c κs = search needs
+
+array-borrow-prefix-out : tie.Need-array-borrow-prefix-out
+array-borrow-prefix-out c = search needs
+
+slice-aggregate-write : tie.Need-slice-aggregate-write
+slice-aggregate-write c = sym (length-take-le _ _ (c .before .if1 .taken))
+
+write-requires : tie.Need-write-requires
+write-requires c κs = search needs
+
+slice-aggregate-text : tie.Need-slice-aggregate-text
+slice-aggregate-text c = search needs
+
+text-requires : tie.Need-text-requires
+text-requires c κs = search needs
+
+returns : tie.Need-returns
+returns c = search needs
+
+pub write-line-spec : {M : Type 1} → statement M
+write-line-spec =
+    tie.close
+    (tie.spec
+    record-requires
+    digits-requires
+    number-requires
+    array-borrow-prefix-out
+    slice-aggregate-write
+    write-requires
+    slice-aggregate-text
+    text-requires
+    returns)

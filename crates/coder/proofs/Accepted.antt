@@ -1,0 +1,77 @@
+-- None of the theorems on refusals is empty: with an open and fit record, bits of the right length and room enough, each call on words is
+-- accepted and does its work; and two places of the code have their third. Assumes nothing.
+use mathlib.Core.Path.{_≡_, ap, ap₂}
+use mathlib.Core.Logic.{_≢_}
+use mathlib.Core.List.{List, _++_}
+use mathlib.Core.Bool.{true, false, not, _||_}
+use Prim.Native.Nat.{ℕ, _≤_}
+use native.Mathlib.Omega.{arith}
+use borrow.Author.Tests.{eq-eqb, ne-eqb, le-ltb}
+use lib.ListN.{length, take, drop}
+use Rattle.words.specs.Words.{Word}
+use Rattle.coder.specs.State.{Fit, placesIn, messageIn, syndromeIn, numberIn, isCodewordIn, encodedIn, inverseIn, thirdIn}
+use Rattle.coder.specs.Reasons.{badPlace, badByte, wrongLength, outside}
+use Rattle.coder.specs.Calls.{wordReasons, syndromeAnswer, codewordAnswer, shown, writeReasons, encodeReasons, encodeAnswer, encodeOutput}
+use Rattle.coder.specs.Calls.{invertReasons, invertAnswer, invertOutput, thirdReasons, thirdAnswer}
+use Rattle.coder.specs.Claims.{NoneApplies}
+use Rattle.coder.specs.declared.Record.{Record}
+use Rattle.coder.proofs.Firsts.{none-first}
+use Rattle.coder.proofs.States.{fit-true}
+use Rattle.coder.proofs.Bytes.{bits-none}
+use Rattle.coder.proofs.Told.{reads}
+
+-- ---- the reasons that a word of n bits rules out
+right-length : (n : ℕ) (w : List ℕ) → Word n w → wrongLength n w .applies ≡ false
+right-length n w h = ap not (eq-eqb (length w) n (h .places))
+
+no-bad : (n : ℕ) (w : List ℕ) → Word n w → badByte w .applies ≡ false
+no-bad n w h = ap not (eq-eqb (badPlace w) 0 (bits-none 1 w (h .bits)))
+
+pub word-none : (rec : Record) (w : List ℕ) → Fit rec → Word (placesIn rec) w → NoneApplies (wordReasons rec w)
+word-none rec w f h =
+    let k = fit-true rec f in
+    (k .0, (k .1, (right-length (placesIn rec) w h, (no-bad (placesIn rec) w h, tt))))
+
+pub write-none : (rec : Record) (n : ℕ) (w out : List ℕ) → Fit rec → Word n w → placesIn rec ≤ length out
+    → NoneApplies (writeReasons rec n w out)
+write-none rec n w out f h l =
+    let k = fit-true rec f in
+    (k .0, (k .1, (right-length n w h, (le-ltb (length out) (placesIn rec) l, (no-bad n w h, tt)))))
+
+-- ---- the calls
+pub syndrome-accepts : (rec : Record) (w : List ℕ) → Fit rec → Word (placesIn rec) w
+    → syndromeAnswer rec w ≡ record { refusal = 0; place = 0; element = numberIn rec (syndromeIn rec w) }
+unfolding syndromeAnswer
+syndrome-accepts rec w f h = rw (none-first (wordReasons rec w) (word-none rec w f h))
+
+pub codeword-accepts : (rec : Record) (w : List ℕ) → Fit rec → Word (placesIn rec) w
+    → codewordAnswer rec w ≡ record { refusal = 0; place = 0; yes = isCodewordIn rec w }
+unfolding codewordAnswer
+codeword-accepts rec w f h = rw (none-first (wordReasons rec w) (word-none rec w f h))
+
+pub reading-accepts : (rec : Record) (w : List ℕ) → Fit rec → Word (placesIn rec) w → isCodewordIn rec w ≡ true
+    → (shown rec w ≡ take (messageIn rec) w) × (1 ≤ length (shown rec w))
+reading-accepts rec w f h y = reads rec w (word-none rec w f h) y
+
+pub encode-accepts : (rec : Record) (m out : List ℕ) → Fit rec → Word (messageIn rec) m → placesIn rec ≤ length out
+    → (encodeAnswer rec m out ≡ record { refusal = 0; place = 0 }) × (encodeOutput rec m out ≡ encodedIn rec m ++ drop (placesIn rec) out)
+unfolding encodeAnswer encodeOutput
+encode-accepts rec m out f h l =
+    let e = none-first (encodeReasons rec m out) (write-none rec (messageIn rec) m out f h l) in (rw e, rw e)
+
+pub invert-accepts : (rec : Record) (w out : List ℕ) → Fit rec → Word (placesIn rec) w → placesIn rec ≤ length out
+    → (invertAnswer rec w out ≡ record { refusal = 0; place = 0 }) × (invertOutput rec w out ≡ inverseIn rec w ++ drop (placesIn rec) out)
+unfolding invertAnswer invertOutput
+invert-accepts rec w out f h l =
+    let e = none-first (invertReasons rec w out) (write-none rec (placesIn rec) w out f h l) in (rw e, rw e)
+
+-- ---- the third place
+inside : (rec : Record) (p : ℕ) → 1 ≤ p → p ≤ placesIn rec → outside rec p .applies ≡ false
+inside rec p a b = ap₂ _||_ (ne-eqb p 0 (λ z. omega arith)) (le-ltb (placesIn rec) p b)
+
+pub third-accepts : (rec : Record) (i j : ℕ) → Fit rec → 1 ≤ i → i ≤ placesIn rec → 1 ≤ j → j ≤ placesIn rec → i ≢ j
+    → thirdAnswer rec i j ≡ record { refusal = 0; place = thirdIn rec i j }
+unfolding thirdAnswer
+third-accepts rec i j f a b c d h =
+    let k = fit-true rec f in
+    rw (none-first (thirdReasons rec i j) (k .0, (k .1, (inside rec i a b, (inside rec j c d, (ne-eqb i j h, tt))))))

@@ -1,0 +1,68 @@
+-- Of an open and fit record: the codeword test says yes exactly of the codewords, and reading shows the message of exactly those.
+-- Assumes nothing.
+use mathlib.Core.Path.{_≡_, refl, sym, ap, _∙_}
+use mathlib.Core.Logic.{_≢_, _↔_}
+use mathlib.Core.List.{List, []}
+use mathlib.Core.Bool.{Bool, true, false}
+use Prim.Native.Nat.{ℕ}
+use native.Mathlib.Omega.{arith}
+use borrow.Author.Tests.{eqb-true, not-false}
+use lib.Dec.{eqb}
+use lib.ListN.{length}
+use Rattle.group.specs.Sign.{allZero}
+use Rattle.group.proofs.Signs.{allZero-zeros, zeros-allZero}
+use Rattle.layout.specs.Parameters.{moduliFor}
+use Rattle.words.specs.Words.{Word}
+use Rattle.words.specs.Syndrome.{syndrome, lengthOf}
+use Rattle.words.proofs.Reading.{valid-syndrome}
+use Rattle.words.proofs.Theorem.{length-code}
+use Rattle.coder.specs.State.{Fit, placesIn, CodewordIn, isCodewordIn}
+use Rattle.coder.specs.Reasons.{badPlace}
+use Rattle.coder.specs.Calls.{wordReasons, codewordAnswer, shown}
+use Rattle.coder.specs.declared.Record.{Record}
+use Rattle.coder.specs.declared.TestAnswer.{TestAnswer}
+use Rattle.coder.proofs.Firsts.{accepted-none}
+use Rattle.coder.proofs.Bytes.{none-bits}
+use Rattle.coder.proofs.Outcomes.{word-numbered, says-yes, shown-no}
+use Rattle.coder.proofs.Accepted.{codeword-accepts, reading-accepts}
+
+module _ (rec : Record) (f : Fit rec) (w : List ℕ) where
+  -- n is the length of a word of the code
+  length-in : lengthOf (moduliFor (rec .t) (rec .r)) ≡ placesIn rec
+  unfolding placesIn
+  length-in = length-code (rec .t) (rec .r) (f .admitted)
+
+  to : codewordAnswer rec w .yes ≡ true → CodewordIn rec w
+  unfolding isCodewordIn
+  to e =
+      let y = says-yes rec w e in
+      let h = accepted-none (wordReasons rec w) (word-numbered rec w) (y .0) in
+      let l = eqb-true (length w) (placesIn rec) (not-false (eqb (length w) (placesIn rec)) (h .1 .1 .0)) in
+      let b = eqb-true (badPlace w) 0 (not-false (eqb (badPlace w) 0) (h .1 .1 .1 .0)) in
+      let ms = moduliFor (rec .t) (rec .r) in
+      record {
+        isWord = record { places = l ∙ sym length-in; bits = none-bits 0 w b };
+        isZero = allZero-zeros ms (syndrome ms w) (valid-syndrome ms w) (y .1);
+      }
+
+  pub word-of : CodewordIn rec w → Word (placesIn rec) w
+  word-of c = record { places = c .isWord .places ∙ length-in; bits = c .isWord .bits }
+
+  pub zero-of : CodewordIn rec w → isCodewordIn rec w ≡ true
+  unfolding isCodewordIn
+  zero-of c = ap allZero (c .isZero) ∙ zeros-allZero (moduliFor (rec .t) (rec .r))
+
+  -- "A codeword is a word of syndrome zero."
+  pub says-codeword : (codewordAnswer rec w .yes ≡ true) ↔ CodewordIn rec w
+  says-codeword = (to, λ c. ap (λ (a : TestAnswer). a .yes) (codeword-accepts rec w f (word-of c)) ∙ zero-of c)
+
+  -- an empty part is shown exactly of what is no codeword
+  pub shows-codeword : (shown rec w ≢ []) ↔ CodewordIn rec w
+  shows-codeword = (go (codewordAnswer rec w .yes) refl, from)
+    where
+      go : (b : Bool) → codewordAnswer rec w .yes ≡ b → shown rec w ≢ [] → CodewordIn rec w
+      go true y h = to y
+      go false y h = absurd (h (sym (shown-no rec w (codewordAnswer rec w) refl y)))
+
+      from : CodewordIn rec w → shown rec w ≢ []
+      from c z = let l = reading-accepts rec w f (word-of c) (zero-of c) .1 in omega (arith, ap length z)

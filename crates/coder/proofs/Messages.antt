@@ -1,0 +1,76 @@
+-- Demand 2 of the calls: encoding writes the one codeword that begins with the message, and reading it shows the message. Assumes nothing.
+use mathlib.Core.Path.{_≡_, sym, ap, _∙_, subst}
+use mathlib.Core.List.{List, _++_}
+use Prim.Native.Nat.{ℕ, _-_, _≤_}
+use native.Mathlib.Omega.{arith}
+use lib.ListN.{length, take, drop}
+use lib.Seq.{take-append-seam, take-append-le, drop-append-seam}
+use Rattle.layout.specs.Parameters.{messageOf, moduliFor}
+use Rattle.words.specs.Words.{Word}
+use Rattle.words.specs.Claims.{messageLengthOf, EncodingOf}
+use Rattle.words.proofs.Theorem.{length-code, length-message-code, code}
+use Rattle.coder.specs.State.{Fit, placesIn, messageIn, CodewordIn, isCodewordIn, encodedIn}
+use Rattle.coder.specs.Calls.{encodeAnswer, encodeOutput, shown}
+use Rattle.coder.specs.Claims.{Encodes}
+use Rattle.coder.specs.declared.Record.{Record}
+use Rattle.coder.proofs.Accepted.{encode-accepts, reading-accepts}
+use Rattle.coder.proofs.Codewords.{word-of, zero-of}
+
+module _ (rec : Record) (m out : List ℕ) (f : Fit rec) (h : Word (messageIn rec) m) (l : placesIn rec ≤ length out) where
+  -- what is written begins with the encoding
+  encoding : EncodingOf (moduliFor (rec .t) (rec .r)) m
+  unfolding messageIn
+  encoding = code (rec .t) (rec .r) (f .admitted) .encodes m h
+
+  codeword : CodewordIn rec (encodedIn rec m)
+  unfolding encodedIn
+  codeword = encoding .codeword
+
+  places : length (encodedIn rec m) ≡ placesIn rec
+  places = word-of rec f (encodedIn rec m) codeword .places
+
+  written : encodeOutput rec m out ≡ encodedIn rec m ++ drop (placesIn rec) out
+  written = encode-accepts rec m out f h l .1
+
+  front : take (placesIn rec) (encodeOutput rec m out) ≡ encodedIn rec m
+  front =
+      ap (take (placesIn rec)) written ∙ ap (λ (n : ℕ). take n (encodedIn rec m ++ drop (placesIn rec) out)) (sym places)
+      ∙ take-append-seam (encodedIn rec m) (drop (placesIn rec) out)
+
+  back : drop (placesIn rec) (encodeOutput rec m out) ≡ drop (placesIn rec) out
+  back =
+      ap (drop (placesIn rec)) written ∙ ap (λ (n : ℕ). drop n (encodedIn rec m ++ drop (placesIn rec) out)) (sym places)
+      ∙ drop-append-seam (encodedIn rec m) (drop (placesIn rec) out)
+
+  -- a message is shorter than a word, so it is met within what is written
+  begins : take (messageIn rec) (encodedIn rec m) ≡ m
+  unfolding messageIn encodedIn
+  begins = ap (λ (n : ℕ). take n (encodedIn rec m)) (sym (length-message-code (rec .t) (rec .r) (f .admitted))) ∙ encoding .begins
+
+  shorter : messageIn rec ≤ length (encodedIn rec m)
+  unfolding messageIn placesIn
+  shorter = let p = places in omega arith
+
+  only : (c : List ℕ) → CodewordIn rec c → take (messageIn rec) c ≡ m → c ≡ encodedIn rec m
+  unfolding messageIn encodedIn
+  only c k e =
+      encoding .only c k (ap (λ (n : ℕ). take n c) (length-message-code (rec .t) (rec .r) (f .admitted)) ∙ e)
+
+  -- another record of the same code
+  shows : (other : Record) → Fit other → other .t ≡ rec .t → other .r ≡ rec .r → shown other (encodedIn rec m) ≡ m
+  unfolding messageIn
+  shows other g t r =
+      let c : CodewordIn other (encodedIn rec m) = rw (t, r) codeword in
+      reading-accepts other (encodedIn rec m) g (word-of other g (encodedIn rec m) c) (zero-of other g (encodedIn rec m) c) .0
+      ∙ ap (λ (n : ℕ). take (messageOf n) (encodedIn rec m)) t ∙ begins
+
+  pub encodes : Encodes rec m out
+  encodes =
+      record {
+        accepted = encode-accepts rec m out f h l .0;
+        codeword = rw front codeword;
+        begins = ap (take (messageIn rec)) written ∙ take-append-le (messageIn rec) (encodedIn rec m) (drop (placesIn rec) out) shorter ∙ begins;
+        only = λ c k e. only c k e ∙ sym front;
+        further = back;
+        shows = λ other g t r. ap (shown other) front ∙ shows other g t r;
+      }

@@ -1,0 +1,274 @@
+-- What the calls on words and places answer, by the first reason that applies: what their proofs cite. Assumes nothing.
+use mathlib.Core.Path.{_≡_, refl, sym, ap, ap₂, _∙_}
+use mathlib.Core.Logic.{_≢_, _⊎_, inl, inr, ⊎-elim}
+use mathlib.Core.List.{List, [], _∷_, _++_}
+use mathlib.Core.Bool.{Bool, true, false, _||_, false≢true}
+use Prim.Native.Nat.{ℕ, zero, suc, _≤_}
+use native.Mathlib.Omega.{arith}
+use borrow.Author.Tests.{eqb-true, eq-eqb, le-leb, ltb-false, eqb-false, not-false}
+use lib.Dec.{eqb, ltb}
+use lib.ListN.{length, take, drop}
+use Rattle.group.specs.Group.{number, moduli}
+use Rattle.group.specs.Sign.{allZero}
+use Rattle.layout.specs.Parameters.{placesOf, messageOf}
+use Rattle.layout.specs.Calls.{shapeFor}
+use Rattle.layout.specs.declared.Shape.{Shape}
+use Rattle.layout.proofs.Parameters.{admitted-admits, known-for, moduli-known}
+use Rattle.words.specs.Calls.{syndromeFor, encodeFor, invertFor, isPlace, thirdFor}
+use Rattle.coder.specs.State.{Fit, isClosed, isUnfit, placesIn, messageIn, syndromeIn, numberIn, isCodewordIn, encodedIn, inverseIn, thirdIn}
+use Rattle.coder.specs.Reasons.{Reason, firstReason, outside, wrongLength, shortOutput, badByte}
+use Rattle.coder.specs.Calls.{ifAccepted, stateReasons, wordLength, messageLength, wordReasons, answerOf, syndromeAnswer, codewordAnswer, shown}
+use Rattle.coder.specs.Calls.{writeReasons, encodeAnswer, encodeOutput, invertAnswer, invertOutput, thirdReasons, thirdAnswer, outputOf}
+use Rattle.coder.specs.declared.Record.{Record}
+use Rattle.coder.specs.declared.Answer.{Answer}
+use Rattle.coder.specs.declared.TestAnswer.{TestAnswer}
+use Rattle.coder.proofs.Firsts.{Numbered, accepted-none, no-place}
+use Rattle.coder.proofs.States.{state-number, state-fit, fit-true, true-fit, or-false}
+use Rattle.coder.proofs.Answers.{fit-length}
+
+pub if-refused : {A : Type 0} (n : ℕ) (x y : A) → n ≢ 0 → ifAccepted n x y ≡ y
+if-refused zero x y h = absurd (h refl)
+if-refused (suc n) x y h = refl
+
+-- ---- 21 and 22 tell no place
+pub state-answer : (rec : Record) (rs : List Reason) (n : ℕ) → n ≡ firstReason (stateReasons rec) .number → n ≢ 0
+    → answerOf (firstReason (stateReasons rec ++ rs)) ≡ record { refusal = n; place = 0 }
+state-answer rec rs n e h =
+    ap answerOf (state-number rec rs (λ z. h (e ∙ z)))
+    ∙ ap₂ {C = Answer} (λ (x p : ℕ). record { refusal = x; place = p }) (sym e) (no-place (stateReasons rec) (refl, (refl, tt)))
+
+-- ---- the lengths of a record that is not fit are 0, but then a reason before them applies
+module _ (rec : Record) (s : Shape) (e : (s .places ≡ wordLength rec) × (s .message ≡ messageLength rec)) where
+  pub by-lengths : (rs : ℕ → ℕ → List Reason)
+      → firstReason (stateReasons rec ++ rs (s .places) (s .message)) ≡ firstReason (stateReasons rec ++ rs (placesIn rec) (messageIn rec))
+  unfolding wordLength messageLength
+  by-lengths rs = go (firstReason (stateReasons rec) .number) refl
+    where
+      go : (n : ℕ) → firstReason (stateReasons rec) .number ≡ n
+          → firstReason (stateReasons rec ++ rs (s .places) (s .message)) ≡ firstReason (stateReasons rec ++ rs (placesIn rec) (messageIn rec))
+      go zero z =
+          let f = state-fit rec z in
+          ap₂ (λ (n m : ℕ). firstReason (stateReasons rec ++ rs n m)) (e .0 ∙ fit-length rec (placesIn rec) f) (e .1 ∙ fit-length rec (messageIn rec) f)
+      go (suc n) z =
+          let h : firstReason (stateReasons rec) .number ≢ 0 = λ y. let c : suc n ≡ 0 = sym z ∙ y in omega arith in
+          state-number rec (rs (s .places) (s .message)) h ∙ sym (state-number rec (rs (placesIn rec) (messageIn rec)) h)
+
+  -- a call with no output asks no room
+  pub word-by : (w : List ℕ)
+      → firstReason (stateReasons rec ++ (wrongLength (s .places) w ∷ shortOutput 0 0 ∷ badByte w ∷ [])) ≡ firstReason (wordReasons rec w)
+  unfolding firstReason
+  word-by w = by-lengths (λ n m. wrongLength n w ∷ badByte w ∷ [])
+
+-- ---- each reason has a number
+pub word-numbered : (rec : Record) (w : List ℕ) → Numbered (wordReasons rec w)
+word-numbered rec w = ((λ e. omega arith), ((λ e. omega arith), ((λ e. omega arith), ((λ e. omega arith), tt))))
+
+pub write-numbered : (rec : Record) (n : ℕ) (w out : List ℕ) → Numbered (writeReasons rec n w out)
+write-numbered rec n w out = ((λ e. omega arith), ((λ e. omega arith), ((λ e. omega arith), ((λ e. omega arith), ((λ e. omega arith), tt)))))
+
+pub third-numbered : (rec : Record) (i j : ℕ) → Numbered (thirdReasons rec i j)
+third-numbered rec i j = ((λ e. omega arith), ((λ e. omega arith), ((λ e. omega arith), ((λ e. omega arith), ((λ e. omega arith), tt)))))
+
+-- ---- what an accepted call on a word knows, and what the functions on plain words then answer
+pub word-accepted : (rec : Record) (w : List ℕ) → firstReason (wordReasons rec w) .number ≡ 0 → Fit rec × (length w ≡ placesIn rec)
+word-accepted rec w e =
+    let h = accepted-none (wordReasons rec w) (word-numbered rec w) e in
+    (true-fit rec (h .1 .0), eqb-true (length w) (placesIn rec) (not-false (eqb (length w) (placesIn rec)) (h .1 .1 .0)))
+
+pub write-accepted : (rec : Record) (n : ℕ) (w out : List ℕ) → firstReason (writeReasons rec n w out) .number ≡ 0
+    → Fit rec × (length w ≡ n) × (placesIn rec ≤ length out)
+write-accepted rec n w out e =
+    let h = accepted-none (writeReasons rec n w out) (write-numbered rec n w out) e in (
+      true-fit rec (h .1 .0),
+      eqb-true (length w) n (not-false (eqb (length w) n) (h .1 .1 .0)),
+      ltb-false (length out) (placesIn rec) (h .1 .1 .1 .0),
+    )
+
+-- the syndrome's element
+pub plain-syndrome : (rec : Record) (w : List ℕ) → Fit rec → length w ≡ placesIn rec → syndromeFor (rec .t) (rec .r) w ≡ syndromeIn rec w
+unfolding syndromeFor syndromeIn placesIn
+plain-syndrome rec w f l = rw (admitted-admits (rec .t) (rec .r) (f .admitted), le-leb (placesOf (rec .t)) (length w) (omega arith))
+
+pub plain-encode : (rec : Record) (m out : List ℕ) → Fit rec → length m ≡ messageIn rec → placesIn rec ≤ length out
+    → encodeFor (rec .t) (rec .r) m out ≡ encodedIn rec m ++ drop (placesIn rec) out
+unfolding encodeFor encodedIn placesIn messageIn
+plain-encode rec m out f l k =
+    rw (admitted-admits (rec .t) (rec .r) (f .admitted), eq-eqb (length m) (messageOf (rec .t)) l, le-leb (placesOf (rec .t)) (length out) k)
+
+pub plain-invert : (rec : Record) (w out : List ℕ) → Fit rec → length w ≡ placesIn rec → placesIn rec ≤ length out
+    → invertFor (rec .t) (rec .r) w out ≡ inverseIn rec w ++ drop (placesIn rec) out
+unfolding invertFor inverseIn placesIn
+plain-invert rec w out f l k =
+    rw (
+      admitted-admits (rec .t) (rec .r) (f .admitted),
+      le-leb (placesOf (rec .t)) (length w) (omega arith),
+      le-leb (placesOf (rec .t)) (length out) k,
+    )
+
+-- a place that reason 5 does not turn away is one of the code
+inside : (rec : Record) (p : ℕ) → outside rec p .applies ≡ false → isPlace (rec .t) p ≡ true
+unfolding placesIn
+inside rec p h =
+    let a = or-false (eqb p 0) (ltb (placesOf (rec .t)) p) h in
+    let z = eqb-false p 0 (a .0) in
+    let l = ltb-false (placesOf (rec .t)) p (a .1) in
+    rw (le-leb 1 p (positive p z), le-leb p (placesOf (rec .t)) l)
+  where
+    positive : (p : ℕ) → (p ≡ 0 → ⊥) → 1 ≤ p
+    positive zero z = absurd (z refl)
+    positive (suc p) z = omega arith
+
+pub plain-third : (rec : Record) (i j : ℕ) → firstReason (thirdReasons rec i j) .number ≡ 0 → thirdFor (rec .t) (rec .r) i j ≡ thirdIn rec i j
+unfolding thirdFor thirdIn
+plain-third rec i j e =
+    let h = accepted-none (thirdReasons rec i j) (third-numbered rec i j) e in
+    rw (
+      admitted-admits (rec .t) (rec .r) (true-fit rec (h .1 .0) .admitted),
+      inside rec i (h .1 .1 .0),
+      inside rec j (h .1 .1 .1 .0),
+      h .1 .1 .1 .1 .0,
+    )
+
+-- whether a place is outside, by the lengths of a fit record
+pub outside-by : (rec : Record) (s : Shape) (f : (isClosed rec ≡ false) × (isUnfit rec ≡ false)) → s .places ≡ wordLength rec → (p : ℕ)
+    → (eqb p 0 || ltb (s .places) p) ≡ outside rec p .applies
+unfolding wordLength
+outside-by rec s f e p = ap (λ (n : ℕ). eqb p 0 || ltb n p) (e ∙ fit-length rec (placesIn rec) f)
+
+-- ---- the answers, by what the check answered
+module _ (rec : Record) (w : List ℕ) (a : Answer) (e : a ≡ answerOf (firstReason (wordReasons rec w))) where
+  number-by : a .refusal ≡ firstReason (wordReasons rec w) .number
+  number-by = ap (λ (x : Answer). x .refusal) e
+
+  place-by : a .place ≡ firstReason (wordReasons rec w) .place
+  place-by = ap (λ (x : Answer). x .place) e
+
+  refused : a .refusal ≢ 0 → firstReason (wordReasons rec w) .number ≢ 0
+  refused h z = h (number-by ∙ z)
+
+  ready : a .refusal ≡ 0 → Fit rec × (length w ≡ placesIn rec)
+  ready h = word-accepted rec w (sym number-by ∙ h)
+
+  pub syndrome-refused : a .refusal ≢ 0 → record { refusal = a .refusal; place = a .place; element = 0 } ≡ syndromeAnswer rec w
+  unfolding syndromeAnswer
+  syndrome-refused h = rw (if-refused _ _ _ (refused h), ← number-by, ← place-by)
+
+  pub syndrome-accepted : a .refusal ≡ 0 → (x : List ℕ) → x ≡ syndromeFor (rec .t) (rec .r) w → (s : Shape) → s ≡ shapeFor (rec .t) (rec .r)
+      → record { refusal = a .refusal; place = a .place; element = number (moduli (s .a) (s .b)) x } ≡ syndromeAnswer rec w
+  unfolding syndromeAnswer numberIn
+  syndrome-accepted h x q s k =
+      let f = ready h .0 in
+      rw (
+        sym number-by ∙ h,
+        h,
+        ← place-by,
+        q,
+        plain-syndrome rec w f (ready h .1),
+        moduli-known (rec .t) (rec .r) s (known-for (rec .t) (rec .r) s k (f .admitted)),
+      )
+
+  pub codeword-refused : a .refusal ≢ 0 → record { refusal = a .refusal; place = a .place; yes = false } ≡ codewordAnswer rec w
+  unfolding codewordAnswer
+  codeword-refused h = rw (if-refused _ _ _ (refused h), ← number-by, ← place-by)
+
+  pub codeword-accepted : a .refusal ≡ 0 → (x : List ℕ) → x ≡ syndromeFor (rec .t) (rec .r) w
+      → record { refusal = a .refusal; place = a .place; yes = allZero x } ≡ codewordAnswer rec w
+  unfolding codewordAnswer isCodewordIn syndromeIn
+  codeword-accepted h x q =
+      rw (
+        sym number-by ∙ h,
+        h,
+        ← place-by,
+        q ∙ plain-syndrome rec w (ready h .0) (ready h .1),
+      )
+
+-- ---- reading, by the codeword test
+accepted-true : (n : ℕ) (b : Bool) → ifAccepted n b false ≡ true → (n ≡ 0) × (b ≡ true)
+accepted-true zero b e = (refl, e)
+accepted-true (suc n) b e = absurd (false≢true e)
+
+accepted-false : (n : ℕ) (b : Bool) → ifAccepted n b false ≡ false → (n ≢ 0) ⊎ ((n ≡ 0) × (b ≡ false))
+accepted-false zero b e = inr (refl, e)
+accepted-false (suc n) b e = inl (λ z. omega arith)
+
+-- the codeword test says yes of a codeword alone, where it is accepted
+pub says-yes : (rec : Record) (w : List ℕ) → codewordAnswer rec w .yes ≡ true → (firstReason (wordReasons rec w) .number ≡ 0) × (isCodewordIn rec w ≡ true)
+unfolding codewordAnswer
+says-yes rec w e = accepted-true _ _ e
+
+says-no : (rec : Record) (w : List ℕ) → codewordAnswer rec w .yes ≡ false
+    → (firstReason (wordReasons rec w) .number ≢ 0) ⊎ ((firstReason (wordReasons rec w) .number ≡ 0) × (isCodewordIn rec w ≡ false))
+unfolding codewordAnswer
+says-no rec w e = accepted-false _ _ e
+
+pub shown-refused : (rec : Record) (w : List ℕ) → firstReason (wordReasons rec w) .number ≢ 0 → shown rec w ≡ []
+unfolding shown
+shown-refused rec w h = if-refused _ _ _ h
+
+pub shown-other : (rec : Record) (w : List ℕ) → firstReason (wordReasons rec w) .number ≡ 0 → isCodewordIn rec w ≡ false → shown rec w ≡ []
+unfolding shown
+shown-other rec w e y = rw (e, y)
+
+pub shown-codeword : (rec : Record) (w : List ℕ) → firstReason (wordReasons rec w) .number ≡ 0 → isCodewordIn rec w ≡ true
+    → shown rec w ≡ take (messageIn rec) w
+unfolding shown
+shown-codeword rec w e y = rw (e, y)
+
+module _ (rec : Record) (w : List ℕ) (a : TestAnswer) (e : a ≡ codewordAnswer rec w) where
+  yes-by : a .yes ≡ codewordAnswer rec w .yes
+  yes-by = ap (λ (x : TestAnswer). x .yes) e
+
+  pub shown-no : a .yes ≡ false → [] ≡ shown rec w
+  shown-no h = sym (⊎-elim (shown-refused rec w) (λ q. shown-other rec w (q .0) (q .1)) (says-no rec w (sym yes-by ∙ h)))
+
+  pub shown-yes : a .yes ≡ true → (n : ℕ) → n ≡ messageLength rec → (take n w ≡ shown rec w) × (n ≤ length w)
+  unfolding messageLength messageIn placesIn
+  shown-yes h n k =
+      let z = says-yes rec w (sym yes-by ∙ h) in
+      let q = word-accepted rec w (z .0) in
+      let m : n ≡ messageIn rec = k ∙ fit-length rec (messageIn rec) (fit-true rec (q .0)) in
+      (ap (λ (n : ℕ). take n w) m ∙ sym (shown-codeword rec w (z .0) (z .1)), omega (arith, q .1))
+
+-- ---- what is written, by what the check answered
+module _ (rec : Record) (n : ℕ) (w out : List ℕ) (a : Answer) (e : a ≡ answerOf (firstReason (writeReasons rec n w out))) (new : List ℕ) where
+  written-by : a .refusal ≡ firstReason (writeReasons rec n w out) .number
+  written-by = ap (λ (x : Answer). x .refusal) e
+
+  kept : a .refusal ≢ 0 → out ≡ outputOf (firstReason (writeReasons rec n w out)) rec new out
+  kept h = let k : firstReason (writeReasons rec n w out) .number ≢ 0 = λ z. h (written-by ∙ z) in sym (if-refused _ _ _ k)
+
+  -- f is what the function on plain words leaves, once the lengths are right
+  wrote : (f : List ℕ) → (Fit rec → length w ≡ n → placesIn rec ≤ length out → f ≡ new ++ drop (placesIn rec) out) → a .refusal ≡ 0
+      → f ≡ outputOf (firstReason (writeReasons rec n w out)) rec new out
+  wrote f g h = let z = sym written-by ∙ h in let q = write-accepted rec n w out z in rw z (g (q .0) (q .1) (q .2))
+
+module _ (rec : Record) (w out : List ℕ) (a : Answer) where
+  pub encode-kept : a ≡ encodeAnswer rec w out → a .refusal ≢ 0 → out ≡ encodeOutput rec w out
+  unfolding encodeAnswer encodeOutput
+  encode-kept e h = kept rec (messageIn rec) w out a e (encodedIn rec w) h
+
+  pub encode-wrote : a ≡ encodeAnswer rec w out → a .refusal ≡ 0 → encodeFor (rec .t) (rec .r) w out ≡ encodeOutput rec w out
+  unfolding encodeAnswer encodeOutput
+  encode-wrote e h = wrote rec (messageIn rec) w out a e (encodedIn rec w) (encodeFor (rec .t) (rec .r) w out) (plain-encode rec w out) h
+
+  pub invert-kept : a ≡ invertAnswer rec w out → a .refusal ≢ 0 → out ≡ invertOutput rec w out
+  unfolding invertAnswer invertOutput
+  invert-kept e h = kept rec (placesIn rec) w out a e (inverseIn rec w) h
+
+  pub invert-wrote : a ≡ invertAnswer rec w out → a .refusal ≡ 0 → invertFor (rec .t) (rec .r) w out ≡ invertOutput rec w out
+  unfolding invertAnswer invertOutput
+  invert-wrote e h = wrote rec (placesIn rec) w out a e (inverseIn rec w) (invertFor (rec .t) (rec .r) w out) (plain-invert rec w out) h
+
+-- ---- the third place, by the number that the check answered
+module _ (rec : Record) (i j x : ℕ) where
+  pub third-refused : x ≡ firstReason (thirdReasons rec i j) .number → x ≢ 0 → record { refusal = x; place = 0 } ≡ thirdAnswer rec i j
+  unfolding thirdAnswer
+  third-refused e h =
+      let k : firstReason (thirdReasons rec i j) .number ≢ 0 = λ y. h (e ∙ y) in
+      let p = no-place (thirdReasons rec i j) (refl, (refl, (refl, (refl, (refl, tt))))) in
+      rw (if-refused _ _ _ k, ← e, p)
+
+  pub third-accepted : (p : ℕ) → x ≡ firstReason (thirdReasons rec i j) .number → x ≡ 0 → p ≡ thirdFor (rec .t) (rec .r) i j
+      → record { refusal = 0; place = p } ≡ thirdAnswer rec i j
+  unfolding thirdAnswer
+  third-accepted p e h q = let z : firstReason (thirdReasons rec i j) .number ≡ 0 = sym e ∙ h in rw (z, q, plain-third rec i j z)

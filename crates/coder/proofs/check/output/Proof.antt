@@ -1,0 +1,81 @@
+-- `coder::check::output` meets its contract: each test is that of a reason, in their order. Assumes nothing.
+use borrow.Author.Needs.{needs}
+use borrow.Author.Tests.{eq-eqb, ne-eqb, lt-ltb, le-ltb}
+use mathlib.Core.Path.{_≡_, sym, ap, _∙_}
+use mathlib.Core.Bool.{not}
+use mathlib.Core.List.{List, [], _∷_, _++_}
+use Prim.Native.Nat.{ℕ}
+use Rattle.coder.specs.Reasons.{Reason, firstReason, wrongLength, shortOutput, badByte, badPlace}
+use Rattle.coder.specs.Calls.{stateReasons, answerOf}
+use Rattle.coder.specs.declared.Answer.{Answer}
+use Rattle.coder.proofs.Firsts.{first-yes, first-no, first-end}
+use Rattle.coder.proofs.States.{state-fit, state-past}
+use Rattle.coder.proofs.Outcomes.{state-answer}
+use Rattle.coder.proofs.check.output.Statement.{statement}
+use Rattle.coder.proofs.check.output.Tie as tie
+
+state-requires : tie.Need-state-requires
+state-requires c κs = search needs
+
+returns : tie.Need-returns
+returns c =
+    let q = c .before in
+    let g = q .before .before .args in
+    sym (state-answer (g .«record») _ (q .state .result) (q .state .ensures) (c .if1 .taken))
+
+-- past the first test the record is open and fit
+past : (c : tie.Else1) (rs : List Reason)
+    → firstReason (stateReasons (c .before .before .before .args .«record») ++ rs) ≡ firstReason rs
+past c rs =
+    let g = c .before .before .before .args .«record» in
+    state-past g rs (state-fit g (sym (c .before .state .ensures) ∙ c .if1 .left))
+
+returns-2 : tie.Need-returns-2
+returns-2 c =
+    let g = c .before .before .before .before .args in
+    sym (ap answerOf (past (c .before) _ ∙ first-yes (wrongLength (g .n) (g .word .now)) _ (ap not (ne-eqb _ _ (c .if2 .taken)))))
+
+-- and past the second the word has its length
+past-length : (c : tie.Else2) (rs : List Reason)
+    → firstReason (stateReasons (c .before .before .before .before .args .«record») ++ (wrongLength (c .before .before .before .before .args .n) (c .before .before .before .before .args .word .now) ∷ rs)) ≡ firstReason rs
+past-length c rs =
+    let g = c .before .before .before .before .args in
+    past (c .before) _ ∙ first-no (wrongLength (g .n) (g .word .now)) rs (ap not (eq-eqb _ _ (c .if2 .left)))
+
+returns-3 : tie.Need-returns-3
+returns-3 c =
+    let g = c .before .before .before .before .before .args in
+    sym (ap answerOf (past-length (c .before) _ ∙ first-yes (shortOutput (g .need) (g .room)) _ (lt-ltb _ _ (c .if3 .taken))))
+
+bad-place-requires : tie.Need-bad-place-requires
+bad-place-requires c κs = search needs
+
+returns-4 : tie.Need-returns-4
+returns-4 c =
+    let q = c .before .before in
+    let g = q .before .before .before .before .before .args in
+    let w = g .word .now in
+    sym
+    (ap answerOf
+    (past-length (q .before) _
+    ∙ first-no (shortOutput (g .need) (g .room)) _ (le-ltb _ _ (q .if3 .left))
+    ∙ first-no (badByte w) [] (ap not (eq-eqb (badPlace w) 0 (sym (c .before .bad-place .ensures) ∙ c .if4 .taken)))
+    ∙ first-end))
+
+returns-5 : tie.Need-returns-5
+returns-5 c =
+    let q = c .before .before in
+    let g = q .before .before .before .before .before .args in
+    let w = g .word .now in
+    let e = c .before .bad-place .ensures in
+    ap {B = Answer} (λ (p : ℕ). record { refusal = 4; place = p }) e
+    ∙ sym
+    (ap answerOf
+    (past-length (q .before) _
+    ∙ first-no (shortOutput (g .need) (g .room)) _ (le-ltb _ _ (q .if3 .left))
+    ∙ first-yes (badByte w) [] (ap not (ne-eqb (badPlace w) 0 (λ z. c .if4 .left (e ∙ z))))))
+
+pub output-spec : {M : Type 1} → statement M
+output-spec =
+    tie.close
+    (tie.spec state-requires returns returns-2 returns-3 bad-place-requires returns-4 returns-5)

@@ -1,0 +1,132 @@
+// What is wrong with a call's record, words, output and places: the first reason that applies, in
+// document 01's order.
+ghost use mathlib.Core.Path.{_≡_};
+ghost use mathlib.Core.Bool.{_||_};
+ghost use mathlib.Core.List.{_∷_, [], _++_};
+ghost use Prim.Native.Nat.{_<_, _≤_};
+ghost use lib.Dec.{eqb, ltb};
+ghost use lib.ListN.{length};
+ghost use Rattle.coder.specs.Reasons.{firstReason, wrongLength, shortOutput, badByte, badPlace};
+ghost use Rattle.coder.specs.Calls.{answerOf, stateReasons, wordReasons, thirdReasons};
+use crate::Answer;
+use crate::Record;
+use crate::fit;
+
+// 21, 22, 2, 3 and 4: n bytes are asked of the word, and the output has `room` bytes of which `need`
+// are needed.
+pub(crate) fn output(record: Record, n: u32, word: &[u8], need: u32, room: usize) -> Answer
+    ensures { λ x. ⌜ x ≡ answerOf (firstReason (stateReasons «record» ++ (wrongLength n (now (word .entry)) ∷ shortOutput need room ∷ badByte (now (word .entry)) ∷ []))) ⌝ }
+{
+    let x = fit::state(record);
+    if x != 0 {
+        return Answer {
+            refusal: x,
+            place: 0,
+        };
+    }
+    if word.len() != n as usize {
+        return Answer {
+            refusal: 2,
+            place: 0,
+        };
+    }
+    if room < need as usize {
+        return Answer {
+            refusal: 3,
+            place: 0,
+        };
+    }
+    let p = bad_place(word);
+    if p == 0 {
+        return Answer {
+            refusal: 0,
+            place: 0,
+        };
+    }
+    Answer {
+        refusal: 4,
+        place: p,
+    }
+}
+
+// The same for a call with no output: none is needed.
+pub(crate) fn word(record: Record, word: &[u8]) -> Answer
+    ensures { λ x. ⌜ x ≡ answerOf (firstReason (wordReasons «record» (now (word .entry)))) ⌝ }
+{
+    let s = fit::lengths(record);
+    output(record, s.places, word, 0, 0)
+}
+
+// 21, 22, 5 and 6 of two places.
+pub(crate) fn places(record: Record, i: u32, j: u32) -> u32
+    ensures { λ x. ⌜ x ≡ firstReason (thirdReasons «record» i j) .number ⌝ }
+{
+    let x = fit::state(record);
+    if x != 0 {
+        return x;
+    }
+    let s = fit::lengths(record);
+    let n = s.places;
+    if is_outside(n, i) {
+        return 5;
+    }
+    if is_outside(n, j) {
+        return 5;
+    }
+    if i == j {
+        return 6;
+    }
+    0
+}
+
+fn is_outside(n: u32, p: u32) -> bool
+    ensures { λ x. ⌜ x ≡ (eqb p 0 || ltb n p) ⌝ }
+{
+    if p == 0 { true } else { n < p }
+}
+
+// The first place of a byte above 1, or 0. Most words have none, and the highest byte is found
+// quickest.
+fn bad_place(word: &[u8]) -> u32
+    requires { ⌜ length (now word) < 4294967296 ⌝ }
+    ensures { λ x. ⌜ x ≡ badPlace (now (word .entry)) ⌝ }
+{
+    if highest(word) <= 1 {
+        return 0;
+    }
+    first_bad(word)
+}
+
+// The highest byte: with none above 1 there is no bad place.
+fn highest(word: &[u8]) -> u8
+    ensures { λ x. ⌜ (x ≤ 1 → badPlace (now (word .entry)) ≡ 0) ⌝ }
+{
+    let mut most: u8 = 0;
+    let mut i: usize = 0;
+    while i < word.len() {
+        most = larger(most, word[i]);
+        i += 1;
+    }
+    most
+}
+
+fn larger(a: u8, b: u8) -> u8
+    ensures { λ x. ⌜ (a ≤ x) × (b ≤ x) ⌝ }
+{
+    if a < b { b } else { a }
+}
+
+// The first place of a byte above 1, or 0, one byte after the other.
+fn first_bad(word: &[u8]) -> u32
+    requires { ⌜ length (now word) < 4294967296 ⌝ }
+    ensures { λ x. ⌜ x ≡ badPlace (now (word .entry)) ⌝ }
+{
+    let mut i: usize = 0;
+    while i < word.len() {
+        if 1 < word[i] {
+            return (i + 1) as u32;
+        }
+        i += 1;
+    }
+    0
+}
