@@ -1,11 +1,11 @@
 -- The third place as the code tells it, for two places of the code with t and r. Assumes nothing.
 use mathlib.Core.Path.{_≡_, refl, sym, ap, ap₂, _∙_}
 use mathlib.Core.Logic.{_≢_, _⊎_, inl, inr}
-use mathlib.Core.Bool.{Bool, true, false, _&&_, not, and-false}
+use mathlib.Core.Bool.{Bool, true, false, _&&_, _||_, not, and-false, true≢false}
 use mathlib.Core.List.{List}
 use Prim.Native.Nat.{ℕ, zero, suc, _-_, _<_, _≤_}
 use native.Mathlib.Omega.{arith}
-use borrow.Author.Tests.{leb-true, le-leb, eq-eqb, ne-eqb}
+use borrow.Author.Tests.{leb-true, le-leb, eqb-true, eqb-false, eq-eqb, ne-eqb}
 use lib.Dec.{leb, eqb}
 use Rattle.group.specs.Group.{Modulus, sum, negative}
 use Rattle.group.proofs.Signs.{both}
@@ -54,6 +54,21 @@ told-apart t r (suc i) (suc j) h e =
     two-apart (moduliFor t r) i j (below t r i j h i (h .firstMost)) (below t r i j h j (h .secondMost)) (apart t r i j h)
     (λ k. e (ap (otherAt (slots (moduliFor t r))) (index j) ∙ k ∙ sym (index i)))
     ∙ ap₂ (sum (moduliFor t r)) (sym (element-for t r (suc i) (h .admitted))) (sym (element-for t r (suc j) (h .admitted)))
+
+-- the code's test whether k is i or j
+pub either-of : (k i j : ℕ) → (eqb k i || eqb k j) ≡ true → (k ≡ i) ⊎ (k ≡ j)
+either-of k i j e = go (eqb k i) refl e
+  where
+    go : (b : Bool) → eqb k i ≡ b → (b || eqb k j) ≡ true → (k ≡ i) ⊎ (k ≡ j)
+    go true t u = inl (eqb-true k i t)
+    go false t u = inr (eqb-true k j u)
+
+pub neither-of : (k i j : ℕ) → (eqb k i || eqb k j) ≡ false → (k ≢ i) × (k ≢ j)
+neither-of k i j e = go (eqb k i) refl e
+  where
+    go : (b : Bool) → eqb k i ≡ b → (b || eqb k j) ≡ false → (k ≢ i) × (k ≢ j)
+    go true t u = absurd (true≢false u)
+    go false t u = (eqb-false k i t, eqb-false k j u)
 
 -- where the place of the negated syndrome is none of the two it is the third; else the place of the syndrome is
 abbrev pub minusPlace : ℕ → ℕ → ℕ → ℕ → ℕ

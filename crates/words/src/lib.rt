@@ -21,11 +21,12 @@ pub fn syndrome(t: u32, r: u32, word: &[u8]) -> Element
     let places = s.places as usize;
     let binary = s.binary as usize;
     let message = s.message as usize;
+    let none = group::zero(a, b);
     if places == 0 {
-        return group::zero(a, b);
+        return none;
     }
     if word.len() < places {
-        return group::zero(a, b);
+        return none;
     }
     let x = walk::message_sum(a, b, places + 1, binary - a, word);
     let y = check::read(a, b, word, message);
@@ -53,8 +54,9 @@ pub fn encode(t: u32, r: u32, message: &[u8], out: &mut [u8])
         return;
     }
     let x = walk::message_sum(a, b, places + 1, binary - a, message);
+    let y = group::neg(a, b, x);
     check::copy(message, out);
-    check::write(a, b, group::neg(a, b, x), out, front);
+    check::write(a, b, y, out, front);
 }
 
 // The inverse of a word, its first n bytes, written to the first n bytes of `out`.

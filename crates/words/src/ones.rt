@@ -1,7 +1,7 @@
 // The third place of two places, told from their elements.
 ghost use mathlib.Core.Path.{_≡_};
-ghost use mathlib.Core.Bool.{_&&_};
-ghost use lib.Dec.{leb};
+ghost use mathlib.Core.Bool.{_&&_, _||_};
+ghost use lib.Dec.{eqb, leb};
 ghost use Rattle.layout.specs.Parameters.{moduliFor};
 ghost use Rattle.layout.specs.Calls.{shapeFor};
 ghost use Rattle.words.specs.Words.{zeroWord, flip};
@@ -35,18 +35,23 @@ fn two_ones(t: u32, r: u32, s: Shape, i: u32, j: u32) -> Element
     group::add(a, b, x, layout::element_at(t, r, j))
 }
 
+// Whether k is i or j.
+fn is_either(k: u32, i: u32, j: u32) -> bool
+    ensures { λ x. ⌜ x ≡ (eqb k i || eqb k j) ⌝ }
+{
+    if k == i { true } else { k == j }
+}
+
 // The place whose element takes that syndrome to zero, unless it is one of the two; then the other
-// half of its pair.
+// half of its pair, whose element is the syndrome.
 pub(crate) fn third_of(t: u32, r: u32, s: Shape, i: u32, j: u32) -> u32
     requires { ⌜ (s ≡ shapeFor t r) × TwoPlaces t r i j ⌝ }
     ensures { λ x. ⌜ x ≡ third (moduliFor t r) i j ⌝ }
 {
     let e = two_ones(t, r, s, i, j);
-    let k = layout::place_of(t, r, group::neg(s.a, s.b, e));
-    if k == i {
-        return layout::place_of(t, r, e);
-    }
-    if k == j {
+    let m = group::neg(s.a, s.b, e);
+    let k = layout::place_of(t, r, m);
+    if is_either(k, i, j) {
         return layout::place_of(t, r, e);
     }
     k

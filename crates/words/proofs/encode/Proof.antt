@@ -44,16 +44,16 @@ message-sum-requires c κs =
     let l = c .before .if2 .left in
     laid _ _ _ _ (shaped (c .before .before)) (omega arith)
 
+neg-requires : tie.Need-neg-requires
+neg-requires c κs = search needs
+
 copy-requires : tie.Need-copy-requires
 copy-requires c κs =
-    let q = c .before .before in
+    let q = c .before .before .before in
     let z = sizes-known _ _ _ (shaped (q .before .before)) in
     let l = q .before .if2 .left in
     let h = q .if3 .left in
     omega (arith, z .check)
-
-neg-requires : tie.Need-neg-requires
-neg-requires c κs = search needs
 
 write-requires : tie.Need-write-requires
 write-requires c κs =
@@ -63,7 +63,7 @@ write-requires c κs =
     let h = q .if3 .left in
     let k = z .check in
     let g = q .before .before .before .before .before .before .before .before .before .args in
-    let d = copied-length (g .message .now) (g .out .now) _ (omega arith) (c .before .before .before .before .copy .ensures) in
+    let d = copied-length (g .message .now) (g .out .now) _ (omega arith) (c .before .before .before .copy .ensures) in
     (z .room, omega arith)
 
 same-length : tie.Need-same-length
@@ -73,8 +73,9 @@ returns-4 : tie.Need-returns-4
 returns-4 c =
     let q = c .before .before .before .before .before .before .before .before .before .before in
     let e = q .before .if2 .left in
+    let n = c .before .before .before .before .before .before .before .before in
     c .before .before .write .ensures
-    ∙ encode-whole _ _ _ _ _ (shaped (q .before .before)) e (q .if3 .left) _ (c .before .before .before .before .neg .ensures ∙ ap (negative _) (c .before .before .before .before .before .before .before .before .before .message-sum .ensures)) _ (c .before .before .before .before .before .before .before .copy .ensures)
+    ∙ encode-whole _ _ _ _ _ (shaped (q .before .before)) e (q .if3 .left) _ (n .neg .ensures ∙ ap (negative _) (n .before .message-sum .ensures)) _ (c .before .before .before .before .before .before .copy .ensures)
 
 pub encode-spec : {M : Type 1} → statement M
 encode-spec =
@@ -90,8 +91,8 @@ encode-spec =
     add-message-sum
     sub-message-sum
     message-sum-requires
-    copy-requires
     neg-requires
+    copy-requires
     write-requires
     same-length
     returns-4)

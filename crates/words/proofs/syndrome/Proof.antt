@@ -25,18 +25,16 @@ zero-requires c κs = search needs
 returns : tie.Need-returns
 returns c =
     let s = c .before .before .before .before .before in
-    c .zero .ensures ∙ syndrome-none _ _ _ _ (s .shape-of .ensures) (c .before .if1 .taken)
-
-zero-requires-2 : tie.Need-zero-requires-2
-zero-requires-2 c κs = search needs
+    c .before .zero .ensures ∙ syndrome-none _ _ _ _ (s .shape-of .ensures) (c .if1 .taken)
 
 -- past the first test the parameters are admitted
-shaped : (c : tie.Else1) → Known (c .before .before .before .before .before .before .args .t) (c .before .before .before .before .before .before .args .r) (c .before .before .before .before .shape-of .result)
-shaped c = known _ _ _ (c .before .before .before .before .shape-of .ensures) (let h = c .if1 .left in omega arith)
+shaped : (c : tie.Else1)
+    → let s = c .before .before .before .before .before in Known (s .before .before .args .t) (s .before .before .args .r) (s .shape-of .result)
+shaped c = known _ _ _ (c .before .before .before .before .before .shape-of .ensures) (let h = c .if1 .left in omega arith)
 
 returns-2 : tie.Need-returns-2
 returns-2 c =
-    c .zero2 .ensures ∙ syndrome-short _ _ _ _ (shaped (c .before .before)) (c .before .if2 .taken)
+    c .before .before .zero .ensures ∙ syndrome-short _ _ _ _ (shaped (c .before)) (c .if2 .taken)
 
 add-message-sum : tie.Need-add-message-sum
 add-message-sum c = search needs
@@ -71,7 +69,6 @@ syndrome-spec =
     cast-message
     zero-requires
     returns
-    zero-requires-2
     returns-2
     add-message-sum
     sub-message-sum
