@@ -1,7 +1,8 @@
 -- `words::syndrome` meets its contract: zero, or the message's part and the check's. Assumes nothing.
 use borrow.Author.Needs.{needs}
-use mathlib.Core.Path.{_∙_}
+use mathlib.Core.Path.{ap₂, _∙_}
 use native.Mathlib.Omega.{arith}
+use Rattle.group.specs.Group.{sum}
 use Rattle.layout.proofs.Parameters.{Known, known, sizes-known}
 use Rattle.words.proofs.Answers.{laid, syndrome-none, syndrome-short, syndrome-whole}
 use Rattle.words.proofs.syndrome.Statement.{statement}
@@ -57,7 +58,8 @@ add-requires c κs = search needs
 returns-3 : tie.Need-returns-3
 returns-3 c =
     let q = c .before .before .before in
-    c .add .ensures ∙ rw (c .before .before .message-sum .ensures, c .before .read .ensures) (syndrome-whole _ _ _ _ (shaped (q .before)) (q .if2 .left))
+    c .add .ensures ∙ ap₂ (sum _) (c .before .before .message-sum .ensures) (c .before .read .ensures)
+    ∙ syndrome-whole _ _ _ _ (shaped (q .before)) (q .if2 .left)
 
 pub syndrome-spec : {M : Type 1} → statement M
 syndrome-spec =
