@@ -1,12 +1,12 @@
-// The sum of all elements, each times a weight, without a table: the numbers lose their lowest
+// The sum of all elements, each times a weight, without a table: the numbers lose their highest
 // component one after the other, and the weights of numbers that become equal are added.
 ghost use mathlib.Core.Path.{_≡_};
-ghost use mathlib.Core.List.{_∷_};
+ghost use mathlib.Core.List.{[], _∷_, _++_};
 ghost use Prim.Native.Nat.{_+_, _*_, _%_, _<_, _≤_};
 ghost use lib.ListN.{length, take};
 ghost use Rattle.group.specs.Group.{moduli, size};
 ghost use Rattle.group.specs.Weights.{weightedFor};
-ghost use Rattle.group.specs.Fold.{halved, odds, sizeFrom, restFrom};
+ghost use Rattle.group.specs.Fold.{added, total, upper, sizeTo, weighTo};
 use crate::Element;
 
 // A weight for each element, by its number.
@@ -22,11 +22,11 @@ pub fn weighted(a: usize, b: usize, v: Weights) -> Element
         return r;
     }
     let mut w = v;
-    let mut i: usize = 0;
-    while i < 12 {
-        r[i] = component(a, b, i, n, &mut w);
+    let mut i: usize = 12;
+    while 0 < i {
+        i -= 1;
         n = n / wide(crate::modulus(a, b, i));
-        i += 1;
+        r[i] = component(a, b, i, n, &mut w);
     }
     r
 }
@@ -36,43 +36,43 @@ fn count(a: usize, b: usize) -> usize
     ensures { λ r. ⌜ r ≡ size (moduli a b) ⌝ }
 {
     let mut n: usize = 1;
-    let mut i: usize = 12;
-    while 0 < i {
-        i -= 1;
+    let mut i: usize = 0;
+    while i < 12 {
         n = n * wide(crate::modulus(a, b, i));
+        i += 1;
     }
     n
 }
 
-// Component i of the sum; the first weights become those of what is left of the elements.
+// Component i of the sum, where the components before it have n numbers; the first n weights become
+// those of these numbers.
 fn component(a: usize, b: usize, i: usize, n: usize, v: &mut [u8]) -> u8
-    requires { ⌜ (i < 12) × (n ≡ sizeFrom a b i) × (n ≤ length (now v)) × (n ≤ 1024) ⌝ }
-    ensures { λ r. ⌜ r ∷ restFrom a b (i + 1) (now (v .exit)) ≡ restFrom a b i (now (v .entry)) ⌝ }
+    requires { ⌜ (i < 12) × (n ≡ sizeTo a b i) × (sizeTo a b (i + 1) ≤ length (now v)) × (sizeTo a b (i + 1) ≤ 1024) ⌝ }
+    ensures { λ r. ⌜ weighTo a b i (now (v .exit)) ++ (r ∷ []) ≡ weighTo a b (i + 1) (now (v .entry)) ⌝ }
 {
     if i < a {
-        fold(n / 2, v) % 2
+        fold(n, v) % 2
     } else if i - a < b {
-        let low = fold(n / 2, v);
-        let high = fold(n / 4, v);
+        let high = fold(2 * n, v);
+        let low = fold(n, v);
         (low + 2 * high) % 4
     } else {
         0
     }
 }
 
-// The sum of the weights of the odd numbers below 2 n, modulo 4; the first n weights become those
-// of the numbers with the lowest bit taken off.
+// The sum of the weights of the upper n of 2 n numbers, modulo 4; the first n weights become those of
+// the numbers with the highest bit taken off.
 fn fold(n: usize, v: &mut [u8]) -> u8
     requires { ⌜ (2 * n ≤ length (now v)) × (n ≤ 1024) ⌝ }
-    ensures { λ r. ⌜ (r ≡ odds (take (2 * n) (now (v .entry))) % 4) × (take n (now (v .exit)) ≡ halved (take (2 * n) (now (v .entry)))) ⌝ }
+    ensures { λ r. ⌜ (r ≡ total (upper n (now (v .entry))) % 4) × (take n (now (v .exit)) ≡ added (take n (now (v .entry))) (upper n (now (v .entry)))) ⌝ }
 {
     let mut c: u32 = 0;
     let mut y: usize = 0;
     while y < n {
-        let p = v[2 * y] % 4;
-        let q = v[2 * y + 1] % 4;
+        let q = v[n + y] % 4;
         c += crate::wide(q);
-        v[y] = (p + q) % 4;
+        v[y] = (v[y] % 4 + q) % 4;
         y += 1;
     }
     (c % 4) as u8

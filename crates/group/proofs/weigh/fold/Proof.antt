@@ -1,4 +1,4 @@
--- `group::weigh::fold` meets its contract: each round adds up two neighbours, and what is still to be read is as it was. Assumes nothing.
+-- `group::weigh::fold` meets its contract: each round adds up two weights, and what is still to be read is as it was. Assumes nothing.
 use borrow.Author.Needs.{needs}
 use Prim.Native.Nat.{_-_}
 use Rattle.group.proofs.Folds.{Folding, fold-start, fold-step, fold-done}
@@ -14,15 +14,6 @@ abbrev μ-loop : tie.MeasureT-loop
 loop-holds : tie.Need-loop-holds Inv-loop μ-loop
 loop-holds c = fold-start _ _ (search needs)
 
-mul-p : tie.Need-mul-p Inv-loop μ-loop
-mul-p c = search needs
-
-slice-read-p : tie.Need-slice-read-p Inv-loop μ-loop
-slice-read-p c = search needs
-
-mul-q : tie.Need-mul-q Inv-loop μ-loop
-mul-q c = search needs
-
 add-q : tie.Need-add-q Inv-loop μ-loop
 add-q c = search needs
 
@@ -34,6 +25,9 @@ wide-requires c κs = search needs
 
 add-c : tie.Need-add-c Inv-loop μ-loop
 add-c c = search needs
+
+slice-read-v : tie.Need-slice-read-v Inv-loop μ-loop
+slice-read-v c = search needs
 
 add-v : tie.Need-add-v Inv-loop μ-loop
 add-v c = search needs
@@ -49,8 +43,8 @@ loop-less c = search needs
 
 loop-again : tie.Need-loop-again Inv-loop μ-loop
 loop-again c =
-    let l = c .before .before .before .before in
-    rw (c .wide .ensures) (fold-step _ _ _ _ _ (l .loop .inv) (c .before .before .before .loop-test .taken))
+    let l = c .before .before .before in
+    rw (c .before .wide .ensures) (fold-step _ _ _ _ _ (l .before .loop .inv) (l .loop-test .taken))
 
 cast-result : tie.Need-cast-result Inv-loop μ-loop
 cast-result c = search needs
@@ -68,13 +62,11 @@ fold-spec =
     Inv-loop
     μ-loop
     loop-holds
-    mul-p
-    slice-read-p
-    mul-q
     add-q
     slice-read-q
     wide-requires
     add-c
+    slice-read-v
     add-v
     slice-write-v
     add-y

@@ -1,9 +1,8 @@
--- `group::weigh::weighted` meets its contract: the loop fills the sum from the front, with the size and the weights of what is left.
--- Assumes nothing.
+-- `group::weigh::weighted` meets its contract: the loop fills the sum from the last component down, with the size and the weights of what is
+-- left. Assumes nothing.
 use borrow.Author.Needs.{needs}
-use Prim.Native.Nat.{_-_}
 use Rattle.group.proofs.Fill.{modulus-pos}
-use Rattle.group.proofs.Folds.{Weighing, weigh-start, weigh-step, weigh-done, weigh-over}
+use Rattle.group.proofs.Folds.{Weighing, weigh-start, weigh-round, weigh-step, weigh-done, weigh-over}
 use Rattle.group.proofs.weigh.weighted.Statement.{statement}
 use Rattle.group.proofs.weigh.weighted.Tie as tie
 
@@ -11,7 +10,7 @@ abbrev Inv-loop : tie.InvT-loop
 Inv-loop a b r₀ n₀ w₀ i₀ r n w i = Weighing a b w₀ r n w i
 
 abbrev μ-loop : tie.MeasureT-loop
-μ-loop a b r₀ n₀ w₀ i₀ r n w i = 12 - i
+μ-loop a b r₀ n₀ w₀ i₀ r n w i = i
 
 count-requires : tie.Need-count-requires Inv-loop μ-loop
 count-requires c κs = search needs
@@ -22,14 +21,8 @@ returns c = weigh-over _ _ _ (rw (c .before .count .ensures) at (c .if1 .taken))
 loop-holds : tie.Need-loop-holds Inv-loop μ-loop
 loop-holds c = weigh-start _ _ _ _ (c .before .count .ensures) (c .if1 .left) (search needs)
 
-slice-aggregate-component : tie.Need-slice-aggregate-component Inv-loop μ-loop
-slice-aggregate-component c = search needs
-
-component-requires : tie.Need-component-requires Inv-loop μ-loop
-component-requires c κs = search needs
-
-array-write-r : tie.Need-array-write-r Inv-loop μ-loop
-array-write-r c = search needs
+sub-i : tie.Need-sub-i Inv-loop μ-loop
+sub-i c = search needs
 
 modulus-requires : tie.Need-modulus-requires Inv-loop μ-loop
 modulus-requires c κs = search needs
@@ -40,18 +33,26 @@ wide-requires c κs = search needs
 div-n : tie.Need-div-n Inv-loop μ-loop
 div-n c = rw (c .wide .ensures, c .before .modulus .ensures) (modulus-pos _ _ _)
 
-add-i : tie.Need-add-i Inv-loop μ-loop
-add-i c = search needs
+slice-aggregate-component : tie.Need-slice-aggregate-component Inv-loop μ-loop
+slice-aggregate-component c = search needs
+
+component-requires : tie.Need-component-requires Inv-loop μ-loop
+component-requires c κs =
+    let l = c .before .before .before in
+    rw (c .before .wide .ensures, c .before .before .modulus .ensures) (weigh-round _ _ _ _ _ _ _ (l .before .loop .inv) (l .loop-test .taken))
+
+array-write-r : tie.Need-array-write-r Inv-loop μ-loop
+array-write-r c = search needs
 
 loop-less : tie.Need-loop-less Inv-loop μ-loop
 loop-less c = search needs
 
 loop-again : tie.Need-loop-again Inv-loop μ-loop
 loop-again c =
-    let l = c .before .before .before .before .before .before in
-    let k = c .before .before .before .component in
-    rw (c .wide .ensures, c .before .modulus .ensures)
-    (weigh-step _ _ _ _ _ _ _ _ _ (l .loop .inv) (c .before .before .before .before .before .loop-test .taken) (k .ensures) (search needs))
+    let k = c .before .before .before in
+    let l = k .before .before in
+    rw (k .wide .ensures, k .before .modulus .ensures)
+    (weigh-step _ _ _ _ _ _ _ _ _ (l .before .loop .inv) (l .loop-test .taken) (c .before .component .ensures) (search needs))
 
 returns-2 : tie.Need-returns-2 Inv-loop μ-loop
 returns-2 c =
@@ -67,13 +68,13 @@ weighted-spec =
     count-requires
     returns
     loop-holds
-    slice-aggregate-component
-    component-requires
-    array-write-r
+    sub-i
     modulus-requires
     wide-requires
     div-n
-    add-i
+    slice-aggregate-component
+    component-requires
+    array-write-r
     loop-less
     loop-again
     returns-2)
