@@ -1,8 +1,8 @@
 -- Firsts: how the first reason is picked. States: what an open and fit record is. Answers: opening, the layout and the lengths by their
 -- reasons, and Outcomes: the calls on words and places, for the proofs of the calls. Bytes: the first byte above 1. Bounds: how long a word
 -- can be, for callers. Refusals: the theorems of demand 1. Told: the place that is told, and reading. Accepted: that the calls on words
--- are accepted. Codewords: the codeword test says yes, and reading shows a message, exactly of codewords. Messages: demand 2 of encoding
--- and reading. Layouts: the layout theorem, of the call.
+-- are accepted. Codewords: the codeword test says yes, and reading shows a message, exactly of codewords. Messages and
+-- Triples: demand 2 of encoding and reading, of the inverse and the third place. Layouts: the layout theorem, of the call.
 pub mod Firsts
 pub mod States
 pub mod Answers
@@ -13,5 +13,6 @@ pub mod Refusals
 pub mod Told
 pub mod Accepted
 pub mod Codewords
+pub mod Triples
 pub mod Messages
 pub mod Layouts

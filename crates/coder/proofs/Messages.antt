@@ -1,19 +1,20 @@
 -- Demand 2 of the calls: encoding writes the one codeword that begins with the message, and reading it shows the message. Assumes nothing.
-use mathlib.Core.Path.{_≡_, sym, ap, _∙_, subst}
+use mathlib.Core.Path.{_≡_, sym, ap, _∙_}
 use mathlib.Core.List.{List, _++_}
-use Prim.Native.Nat.{ℕ, _-_, _≤_}
+use Prim.Native.Nat.{ℕ, _≤_}
 use native.Mathlib.Omega.{arith}
 use lib.ListN.{length, take, drop}
-use lib.Seq.{take-append-seam, take-append-le, drop-append-seam}
+use lib.Seq.{take-append-le}
 use Rattle.layout.specs.Parameters.{messageOf, moduliFor}
 use Rattle.words.specs.Words.{Word}
-use Rattle.words.specs.Claims.{messageLengthOf, EncodingOf}
-use Rattle.words.proofs.Theorem.{length-code, length-message-code, code}
-use Rattle.coder.specs.State.{Fit, placesIn, messageIn, CodewordIn, isCodewordIn, encodedIn}
-use Rattle.coder.specs.Calls.{encodeAnswer, encodeOutput, shown}
+use Rattle.words.specs.Claims.{EncodingOf}
+use Rattle.words.proofs.Theorem.{length-message-code, code}
+use Rattle.coder.specs.State.{Fit, placesIn, messageIn, CodewordIn, encodedIn}
+use Rattle.coder.specs.Calls.{encodeOutput, shown}
 use Rattle.coder.specs.Claims.{Encodes}
 use Rattle.coder.specs.declared.Record.{Record}
 use Rattle.coder.proofs.Accepted.{encode-accepts, reading-accepts}
+use Rattle.coder.proofs.Triples.{front}
 use Rattle.coder.proofs.Codewords.{word-of, zero-of}
 
 module _ (rec : Record) (m out : List ℕ) (f : Fit rec) (h : Word (messageIn rec) m) (l : placesIn rec ≤ length out) where
@@ -32,15 +33,10 @@ module _ (rec : Record) (m out : List ℕ) (f : Fit rec) (h : Word (messageIn re
   written : encodeOutput rec m out ≡ encodedIn rec m ++ drop (placesIn rec) out
   written = encode-accepts rec m out f h l .1
 
-  front : take (placesIn rec) (encodeOutput rec m out) ≡ encodedIn rec m
-  front =
-      ap (take (placesIn rec)) written ∙ ap (λ (n : ℕ). take n (encodedIn rec m ++ drop (placesIn rec) out)) (sym places)
-      ∙ take-append-seam (encodedIn rec m) (drop (placesIn rec) out)
-
-  back : drop (placesIn rec) (encodeOutput rec m out) ≡ drop (placesIn rec) out
-  back =
-      ap (drop (placesIn rec)) written ∙ ap (λ (n : ℕ). drop n (encodedIn rec m ++ drop (placesIn rec) out)) (sym places)
-      ∙ drop-append-seam (encodedIn rec m) (drop (placesIn rec) out)
+  parts : (take (placesIn rec) (encodeOutput rec m out) ≡ encodedIn rec m) × (drop (placesIn rec) (encodeOutput rec m out) ≡ drop (placesIn rec) out)
+  parts =
+      let p = front (placesIn rec) (encodedIn rec m) out places in
+      (ap (take (placesIn rec)) written ∙ p .0, ap (drop (placesIn rec)) written ∙ p .1)
 
   -- a message is shorter than a word, so it is met within what is written
   begins : take (messageIn rec) (encodedIn rec m) ≡ m
@@ -68,9 +64,9 @@ module _ (rec : Record) (m out : List ℕ) (f : Fit rec) (h : Word (messageIn re
   encodes =
       record {
         accepted = encode-accepts rec m out f h l .0;
-        codeword = rw front codeword;
+        codeword = rw (parts .0) codeword;
         begins = ap (take (messageIn rec)) written ∙ take-append-le (messageIn rec) (encodedIn rec m) (drop (placesIn rec) out) shorter ∙ begins;
-        only = λ c k e. only c k e ∙ sym front;
-        further = back;
-        shows = λ other g t r. ap (shown other) front ∙ shows other g t r;
+        only = λ c k e. only c k e ∙ sym (parts .0);
+        further = parts .1;
+        shows = λ other g t r. ap (shown other) (parts .0) ∙ shows other g t r;
       }

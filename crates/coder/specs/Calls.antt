@@ -79,8 +79,8 @@ codewordAnswer rec w =
     let x = firstReason (wordReasons rec w) in
     record { refusal = x .number; place = x .place; yes = ifAccepted (x .number) (isCodewordIn rec w) false }
 
--- "Reading shows the message as the first n − t bytes of the lent codeword itself, not a copy. It shows an empty part exactly when the
--- record or word would be refused or the word is no codeword."
+-- "Reading shows the message as the first n − t bytes of the lent codeword itself, not a copy" (document 01), "an empty part exactly when
+-- the record or word would be refused or the word is no codeword"
 unfoldable pub shown : Record → List ℕ → List ℕ
 shown rec w = ifAccepted (firstReason (wordReasons rec w) .number) (pick (isCodewordIn rec w) (take (messageIn rec) w) []) []
 

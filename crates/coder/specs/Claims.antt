@@ -6,9 +6,10 @@ use mathlib.Core.List.{List, [], _∷_, _++_}
 use mathlib.Core.Bool.{true, false}
 use Prim.Native.Nat.{ℕ, _-_, _<_, _≤_}
 use lib.ListN.{length, getD, take, drop}
-use Rattle.coder.specs.State.{Fit, placesIn, messageIn, CodewordIn}
+use Rattle.words.specs.Words.{Word, zeroWord}
+use Rattle.coder.specs.State.{Fit, placesIn, messageIn, CodewordIn, combineIn, ThreeIn}
 use Rattle.coder.specs.Reasons.{Reason}
-use Rattle.coder.specs.Calls.{encodeAnswer, encodeOutput, shown}
+use Rattle.coder.specs.Calls.{encodeAnswer, encodeOutput, shown, invertAnswer, invertOutput, thirdAnswer}
 use Rattle.coder.specs.declared.Record.{Record}
 
 -- none of the reasons applies
@@ -63,3 +64,16 @@ pub record Encodes (rec : Record) (m out : List ℕ) : Type 0 where
   pub further : drop (placesIn rec) (encodeOutput rec m out) ≡ drop (placesIn rec) out
   pub shows : (other : Record) → Fit other → other .t ≡ rec .t → other .r ≡ rec .r
       → shown other (take (placesIn rec) (encodeOutput rec m out)) ≡ m
+
+-- what the inverse call wrote into the first n bytes of an output: the word that makes the zero word with w
+pub record Inverts (rec : Record) (w out : List ℕ) : Type 0 where
+  pub accepted : invertAnswer rec w out ≡ record { refusal = 0; place = 0 }
+  pub word : Word (placesIn rec) (take (placesIn rec) (invertOutput rec w out))
+  pub zero : combineIn rec w (take (placesIn rec) (invertOutput rec w out)) ≡ zeroWord (placesIn rec)
+  pub further : drop (placesIn rec) (invertOutput rec w out) ≡ drop (placesIn rec) out
+
+-- what the third place call told of two places: the one place that makes a codeword of weight 3 with them
+pub record Thirds (rec : Record) (i j : ℕ) : Type 0 where
+  pub accepted : thirdAnswer rec i j .refusal ≡ 0
+  pub makes : ThreeIn rec i j (thirdAnswer rec i j .place)
+  pub only : (k : ℕ) → ThreeIn rec i j k → k ≡ thirdAnswer rec i j .place

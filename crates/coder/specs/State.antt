@@ -11,6 +11,7 @@ use Rattle.layout.specs.Layout as layout
 use Rattle.words.specs.Words as words
 use Rattle.words.specs.Syndrome as syndromes
 use Rattle.words.specs.Coding as coding
+use Rattle.words.specs.Claims as claims
 use Rattle.coder.specs.declared.Record.{Record}
 
 -- "Opening gives t, r (never 0) and four counts at 0: words, clean, mended binary, mended in pairs" (document 01): what it calls mended is
@@ -71,6 +72,14 @@ encodedIn rec m = coding.encode (moduliFor (rec .t) (rec .r)) m
 unfoldable pub inverseIn : Record → List ℕ → List ℕ
 inverseIn rec w = words.inverse (layout.slots (moduliFor (rec .t) (rec .r))) w
 
+-- "Combining adds binary places modulo 2 and pairs modulo 4."
+unfoldable pub combineIn : Record → List ℕ → List ℕ → List ℕ
+combineIn rec x y = words.combine (layout.slots (moduliFor (rec .t) (rec .r))) x y
+
 -- "Third place: for places i and j, the one place that makes a codeword of weight 3 with them."
 unfoldable pub thirdIn : Record → ℕ → ℕ → ℕ
 thirdIn rec i j = coding.third (moduliFor (rec .t) (rec .r)) i j
+
+-- k makes a codeword of weight 3 with i and j
+abbrev pub ThreeIn : Record → ℕ → ℕ → ℕ → Type 0
+ThreeIn rec i j k = claims.ThreeAt (moduliFor (rec .t) (rec .r)) i j k

@@ -1,12 +1,11 @@
 -- Combining with a codeword carries correction along. Assumes nothing.
 use mathlib.Core.Path.{_≡_, refl, sym, ap, ap₂, _∙_}
-use mathlib.Core.List.{List, [], _∷_}
-use Prim.Native.Nat.{ℕ, zero, suc, _+_, _-_, _%_, _<_, _≤_}
+use mathlib.Core.List.{List, _∷_}
+use Prim.Native.Nat.{ℕ, zero, suc, _+_, _-_, _%_, _≤_}
 use native.Mathlib.Omega.{arith}
-use lib.ListN.{length}
 use Rattle.group.specs.Group.{Modulus, zeros, sum}
 use Rattle.group.proofs.Laws.{valid-zeros, zero-sum}
-use Rattle.layout.specs.Layout.{Slot, single, pair, slots}
+use Rattle.layout.specs.Layout.{Slot, pair, slots}
 use Rattle.layout.proofs.Places.{good-slots}
 use Rattle.words.specs.Digits.{gray, digit}
 use Rattle.words.specs.Words.{Word, flipAt, flip, combine}

@@ -5,7 +5,7 @@ use Prim.Native.Nat.{ℕ, zero, suc, _+_, _-_, _*_, _<_, _≤_}
 use native.Mathlib.Numerals.{add-one}
 use native.Mathlib.Omega.{arith}
 use lib.ListN.{length, take, drop, getD, set, length-set, drop-of-length-le, take-append-drop}
-use lib.Seq.{drop-cons, drop-drop, take-suc, take-suc-set, take-all, drop-set-lt}
+use lib.Seq.{drop-cons, drop-drop, take-suc-set, drop-set-lt}
 use Rattle.group.specs.Group.{Modulus, one, two, four, moduli, hd, tl}
 use Rattle.group.proofs.Fill.{length-moduli, moduli-two, moduli-four, moduli-one}
 use Rattle.words.specs.Digits.{gray}

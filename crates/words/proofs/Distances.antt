@@ -1,8 +1,8 @@
 -- Words within one place of each other, and the theorem that the code is perfect. Assumes nothing.
-use mathlib.Core.Path.{_≡_, refl, sym, ap, ap₂, _∙_, subst}
+use mathlib.Core.Path.{_≡_, refl, sym, ap, ap₂, _∙_}
 use mathlib.Core.Bool.{Bool, true, false, not, true≢false}
 use mathlib.Core.List.{List, [], _∷_}
-use Prim.Native.Nat.{ℕ, zero, suc, _+_, _-_, _<_, _≤_}
+use Prim.Native.Nat.{ℕ, zero, suc, _-_, _≤_}
 use native.Mathlib.Omega.{arith}
 use lib.Dec.{eqb, eqb→eq, eqb-refl}
 use lib.ListN.{length}
@@ -12,7 +12,7 @@ use Rattle.layout.specs.Gate.{hit}
 use Rattle.layout.specs.Layout.{slots}
 use Rattle.words.specs.Words.{Bits, Word, distance, flipAt, flip}
 use Rattle.words.specs.Syndrome.{syndrome, Codeword, lengthOf}
-use Rattle.words.specs.Coding.{corrected, correctedPlace}
+use Rattle.words.specs.Coding.{corrected}
 use Rattle.words.specs.Claims.{PerfectAt}
 use Rattle.words.proofs.Reading.{Reads, word-reads, reads-word}
 use Rattle.words.proofs.Perfect.{fault, flip-place-reads, fault-within, fault-zero, fault-only}

@@ -6,7 +6,7 @@ use Prim.Native.Nat.{ℕ, _<_}
 use native.Mathlib.Omega.{arith}
 use lib.ListN.{length, take, drop, take-append-drop}
 use lib.Seq.{take-append-seam}
-use Rattle.group.specs.Group.{Modulus, one, two, four, radix, hd, tl, Valid, zeros, sum, negative, times}
+use Rattle.group.specs.Group.{Modulus, one, two, four, radix, Valid, zeros, sum, negative, times}
 use Rattle.group.proofs.Laws.{valid-negative, zero-sum, sum-assoc, sum-negative, negative-unique}
 use Rattle.group.proofs.Unit.{unit-sum}
 use Rattle.layout.specs.Layout.{Slot, single, pair, under, units, message, slots, places}

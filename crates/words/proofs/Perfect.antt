@@ -1,22 +1,22 @@
 -- Of a word and its n neighbours exactly one has syndrome zero. Its place is found from the syndrome s: the place whose element is −s,
 -- moved to the other half of its pair where the word differs on the two. Assumes nothing.
-use mathlib.Core.Path.{_≡_, refl, sym, ap, _∙_, subst}
+use mathlib.Core.Path.{_≡_, refl, sym, ap, _∙_}
 use mathlib.Core.Logic.{_≢_}
 use mathlib.Core.Bool.{Bool, true, false, true≢false}
-use mathlib.Core.List.{List, [], _∷_}
-use Prim.Native.Nat.{ℕ, zero, suc, _+_, _-_, _<_, _≤_}
+use mathlib.Core.List.{List}
+use Prim.Native.Nat.{ℕ, zero, suc, _<_, _≤_}
 use native.Mathlib.Omega.{arith}
-use lib.ListN.{length, getD}
-use Rattle.group.specs.Group.{Modulus, Valid, zeros, sum, negative, size}
+use lib.ListN.{length}
+use Rattle.group.specs.Group.{Modulus, zeros, sum, negative, size}
 use Rattle.group.specs.Sign.{same}
-use Rattle.group.proofs.Laws.{valid-zeros, valid-negative, sum-negative, negative-unique, negative-zeros}
+use Rattle.group.proofs.Laws.{valid-negative, sum-negative, negative-unique, negative-zeros}
 use Rattle.group.proofs.Signs.{same-refl, same-eq}
-use Rattle.layout.specs.Layout.{slots, places, elementAt, placeOf}
+use Rattle.layout.specs.Layout.{slots, elementAt, placeOf}
 use Rattle.layout.proofs.Cover.{negative-nonzero}
 use Rattle.layout.proofs.Sizes.{length-places}
 use Rattle.layout.proofs.Places.{good-slots, valid-at-place, place-nonzero, place-unique, place-none, one-place}
 use Rattle.words.specs.Words.{flipAt, flip}
-use Rattle.words.specs.Syndrome.{syndromeOver, syndrome, lengthOf}
+use Rattle.words.specs.Syndrome.{syndrome, lengthOf}
 use Rattle.words.specs.Halves.{movedAt, moved}
 use Rattle.words.proofs.Reading.{Reads, reads-length, valid-syndrome}
 use Rattle.words.proofs.Flips.{moved-lt, moved-moved, syndrome-flip, flip-reads}

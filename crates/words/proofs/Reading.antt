@@ -1,11 +1,11 @@
 -- A word read slot by slot: one bit for a single, two for a pair. The relation has a case for each kind of slot, so that proofs on words go
 -- by it; `word-reads` and `reads-word` tie it to words of n bits. Assumes nothing.
-use mathlib.Core.Path.{_≡_, refl, sym, ap, _∙_}
-use mathlib.Core.List.{List, [], _∷_, _++_}
-use Prim.Native.Nat.{ℕ, zero, suc, _+_, _-_, _<_, _≤_}
+use mathlib.Core.Path.{_≡_, refl, ap}
+use mathlib.Core.List.{List, [], _∷_}
+use Prim.Native.Nat.{ℕ, zero, suc, _≤_}
 use native.Mathlib.Omega.{arith}
 use lib.ListN.{length}
-use Rattle.group.specs.Group.{Modulus, hd, tl, Valid, zeros, times}
+use Rattle.group.specs.Group.{Modulus, hd, tl, Valid, times}
 use Rattle.group.proofs.Laws.{valid-zeros, valid-sum}
 use Rattle.layout.specs.Layout.{Slot, single, pair, slots, places}
 use Rattle.layout.proofs.Sizes.{length-places}

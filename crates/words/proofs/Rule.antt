@@ -11,17 +11,16 @@ use Rattle.group.specs.Group.{Modulus, Valid, zeros, negative}
 use Rattle.group.specs.Sign.{same, allZero}
 use Rattle.group.proofs.Laws.{valid-negative, negative-negative}
 use Rattle.group.proofs.Signs.{T-true, same-refl, same-ne, allZero-zeros, zeros-allZero}
-use Rattle.layout.specs.Layout.{Slot, single, pair, slots, places, elementAt, placeOf}
+use Rattle.layout.specs.Layout.{Slot, pair, slots, places, elementAt}
 use Rattle.layout.specs.Claims.{Good}
 use Rattle.layout.proofs.Cover.{negative-nonzero}
 use Rattle.layout.proofs.Places.{good-slots, place-unique}
-use Rattle.words.specs.Choice.{pick}
 use Rattle.words.specs.Digits.{gray, digit, less}
-use Rattle.words.specs.Words.{Bits, flipAt, flip}
-use Rattle.words.specs.Syndrome.{syndrome, lengthOf}
+use Rattle.words.specs.Words.{flipAt, flip}
+use Rattle.words.specs.Syndrome.{syndrome}
 use Rattle.words.specs.Halves.{otherAt, movedAt}
 use Rattle.words.specs.Coding.{isCodeword, correctOver, corrected, changedFrom, correctedPlace}
-use Rattle.words.proofs.Reading.{Bit, off, on, Reads, none, bit, bits, reads-length, reads-bits, valid-syndrome}
+use Rattle.words.proofs.Reading.{Bit, off, on, Reads, none, bit, bits, reads-length, valid-syndrome}
 use Rattle.words.proofs.Flips.{moved-alone, moved-single, moved-pair}
 use Rattle.words.proofs.Perfect.{fault, length-word, fault-none, fault-there, fault-within}
 

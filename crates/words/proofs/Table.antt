@@ -1,6 +1,6 @@
 -- Document 01's cases marked P, for (3,2): one theorem about the definitions, computed. Assumes nothing.
 use mathlib.Core.Path.{_≡_, refl}
-use mathlib.Core.List.{List, [], _∷_, _++_, map}
+use mathlib.Core.List.{List, [], _∷_}
 use Prim.Native.Nat.{ℕ}
 use Rattle.group.specs.Group.{Modulus, moduli, zeros, sum, negative, times, number, element, size}
 use Rattle.group.specs.Sign.{same, allZero, isUnit, lead}

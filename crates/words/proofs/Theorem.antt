@@ -1,18 +1,17 @@
 -- The theorems on words gathered: `word-group` for every list of moduli, and `code` for admitted t and r. Assumes nothing.
 use mathlib.Core.Path.{_≡_, sym, ap, _∙_, subst}
 use mathlib.Core.List.{List}
-use Prim.Native.Nat.{ℕ, _+_, _-_, _^_, _≤_, _<_}
+use Prim.Native.Nat.{ℕ}
 use native.Mathlib.Omega.{arith}
 use lib.ListN.{length, take}
 use Rattle.group.specs.Group.{Modulus, sum, negative}
 use Rattle.layout.specs.Parameters.{Admitted, placesOf, messageOf, moduliFor}
 use Rattle.layout.specs.Layout.{slots, places}
-use Rattle.layout.specs.Claims.{LayoutOf}
 use Rattle.layout.proofs.Sizes.{length-places}
 use Rattle.layout.proofs.Places.{good-slots}
 use Rattle.layout.proofs.Theorem.{layout}
 use Rattle.words.specs.Words.{Word, zeroWord, combine, inverse}
-use Rattle.words.specs.Syndrome.{syndrome, Codeword, lengthOf}
+use Rattle.words.specs.Syndrome.{syndrome, lengthOf}
 use Rattle.words.specs.Coding.{encode}
 use Rattle.words.specs.Claims.{messageLengthOf, GroupOf, CodeOf}
 use Rattle.words.proofs.Reading.{word-reads, reads-word}

@@ -1,28 +1,26 @@
 -- Two different places have exactly one third place, another than both. Assumes nothing.
 use mathlib.Core.Path.{_≡_, refl, sym, ap, _∙_}
 use mathlib.Core.Logic.{_≢_}
-use mathlib.Core.Bool.{Bool, true, false, _&&_, true≢false}
-use mathlib.Core.List.{List, [], _∷_}
-use Prim.Native.Nat.{ℕ, zero, suc, _+_, _-_, _<_, _≤_}
+use mathlib.Core.Bool.{Bool, true, false, true≢false}
+use mathlib.Core.List.{List}
+use Prim.Native.Nat.{ℕ, zero, suc, _+_, _<_, _≤_}
 use native.Mathlib.Omega.{arith}
 use native.Mathlib.Decide.{ℕ-discrete}
-use lib.Dec.{eqb, eqb→eq, eqb-refl}
-use lib.ListN.{length, getD, replicate, length-replicate}
-use Rattle.group.specs.Group.{Modulus, zeros, size}
-use Rattle.group.specs.Sign.{allZero}
-use Rattle.group.proofs.Laws.{valid-zeros, zero-sum, times-zero}
-use Rattle.group.proofs.Signs.{T-true, true-T, both, allZero-zeros, zeros-allZero}
-use Rattle.layout.specs.Layout.{Slot, single, pair, slots, places}
+use lib.Dec.{eqb}
+use lib.ListN.{length, getD, length-replicate}
+use Rattle.group.specs.Group.{Modulus, zeros}
+use Rattle.group.proofs.Signs.{both, allZero-zeros, zeros-allZero}
+use Rattle.layout.specs.Layout.{slots, places}
 use Rattle.layout.proofs.Sizes.{length-places}
 use Rattle.words.specs.Choice.{pick, least}
-use Rattle.words.specs.Words.{Bits, Word, zeroWord, weight, flipAt, flip}
-use Rattle.words.specs.Syndrome.{syndromeOver, syndrome, Codeword, lengthOf}
-use Rattle.words.specs.Coding.{isCodeword, onesAt, makesThree, third}
+use Rattle.words.specs.Words.{Bits, zeroWord, weight, flipAt, flip}
+use Rattle.words.specs.Syndrome.{syndromeOver, syndrome, lengthOf}
+use Rattle.words.specs.Coding.{isCodeword, makesThree, third}
 use Rattle.words.specs.Claims.{ThreeAt, ThirdOf}
-use Rattle.words.proofs.Reading.{Bit, off, on, Reads, none, bit, bits, word-reads, reads-word, valid-syndrome}
+use Rattle.words.proofs.Reading.{Reads, bits, word-reads, reads-word, valid-syndrome}
 use Rattle.words.proofs.Combining.{syndrome-zero}
-use Rattle.words.proofs.Flips.{flip-reads, flip-twice, flip-comm, length-flipAt, flipped-here, flipped-there, weight-flipAt}
-use Rattle.words.proofs.Perfect.{fault, flip-place-reads, length-word, fault-within, fault-zero, fault-only}
+use Rattle.words.proofs.Flips.{flip-reads, flip-twice, flip-comm, length-flipAt, flipped-there, weight-flipAt}
+use Rattle.words.proofs.Perfect.{fault, fault-within, fault-zero, fault-only}
 
 -- ---- the least number that passes, where only one does
 pub least-only : (test : ℕ → Bool) (p k q : ℕ) → p ≤ q → q < p + k → test q ≡ true

@@ -7,10 +7,10 @@ use Prim.Native.Nat.{ℕ, zero, suc, _-_, _<_, _≤_}
 use native.Mathlib.Omega.{arith}
 use borrow.Author.Tests.{leb-true, le-leb, eqb-true, eqb-false, eq-eqb, ne-eqb}
 use lib.Dec.{leb, eqb}
-use Rattle.group.specs.Group.{Modulus, sum, negative}
+use Rattle.group.specs.Group.{sum, negative}
 use Rattle.group.proofs.Signs.{both}
 use Rattle.layout.specs.Parameters.{admits, placesOf, moduliFor}
-use Rattle.layout.specs.Layout.{slots, elementAt, placeOf}
+use Rattle.layout.specs.Layout.{slots, placeOf}
 use Rattle.layout.specs.Calls.{shapeFor, elementFor, placeFor}
 use Rattle.layout.specs.declared.Shape.{Shape}
 use Rattle.layout.proofs.Parameters.{admits-admitted, admitted-admits, known-for, known, element-for, place-for}

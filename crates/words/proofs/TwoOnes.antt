@@ -2,14 +2,14 @@
 use mathlib.Core.Path.{_≡_, refl, sym, ap, ap₂, _∙_, subst}
 use mathlib.Core.Logic.{_≢_, _⊎_, inl, inr}
 use mathlib.Core.Bool.{Bool, true, false}
-use mathlib.Core.List.{List, [], _∷_}
-use Prim.Native.Nat.{ℕ, zero, suc, _+_, _-_, _<_, _≤_}
+use mathlib.Core.List.{List}
+use Prim.Native.Nat.{ℕ, zero, suc, _-_, _<_, _≤_}
 use native.Mathlib.Omega.{arith}
 use native.Mathlib.Decide.{ℕ-discrete}
 use lib.Dec.{eqb, eqb-refl}
-use lib.ListN.{length, getD, length-replicate}
-use Rattle.group.specs.Group.{Modulus, Valid, zeros, sum, negative}
-use Rattle.group.proofs.Laws.{valid-negative, zero-sum, negative-negative, negative-zeros}
+use lib.ListN.{length, getD}
+use Rattle.group.specs.Group.{Modulus, zeros, sum, negative}
+use Rattle.group.proofs.Laws.{valid-negative, zero-sum, negative-negative}
 use Rattle.group.proofs.Signs.{T-true}
 use Rattle.layout.specs.Layout.{Slot, slots, places, elementAt, placeOf}
 use Rattle.layout.proofs.Places.{good-slots, valid-at-place, place-unique}
@@ -17,7 +17,7 @@ use Rattle.layout.proofs.Cover.{negative-nonzero}
 use Rattle.words.specs.Choice.{pick}
 use Rattle.words.specs.Words.{zeroWord, flipAt, flip}
 use Rattle.words.specs.Syndrome.{syndrome, lengthOf}
-use Rattle.words.specs.Halves.{otherAt, movedAt, moved}
+use Rattle.words.specs.Halves.{otherAt, movedAt}
 use Rattle.words.specs.Coding.{third}
 use Rattle.words.proofs.Reading.{Reads, valid-syndrome}
 use Rattle.words.proofs.Flips.{flip-reads, flipped-here, flipped-there}

@@ -9,7 +9,7 @@ use borrow.Author.Tests.{le-leb}
 use lib.Dec.{eqb}
 use lib.ListN.{length, take, set, length-set, length-take}
 use lib.Seq.{take-suc-set}
-use Rattle.group.specs.Group.{Modulus, moduli, Valid, zeros, sum, times, element, size}
+use Rattle.group.specs.Group.{moduli, zeros, sum, times, element, size}
 use Rattle.group.specs.Sign.{isUnit, lead}
 use Rattle.group.specs.Weights.{room, weighFrom, weightedFor}
 use Rattle.group.proofs.Weights.{valid-weigh}

@@ -1,6 +1,6 @@
 -- `words::third` meets its contract. Assumes nothing.
 use borrow.Author.Needs.{needs}
-use mathlib.Core.Path.{_≡_, sym, _∙_}
+use mathlib.Core.Path.{sym, _∙_}
 use Rattle.words.specs.Calls.{TwoPlaces}
 use Rattle.words.proofs.Told.{two-places, third-two, third-first-out, third-second-out, third-equal}
 use Rattle.words.proofs.third.Statement.{statement}

@@ -7,7 +7,7 @@ use native.Mathlib.Omega.{arith}
 use Rattle.group.specs.Group.{Modulus, moduli, sum}
 use Rattle.layout.specs.Parameters.{moduliFor}
 use Rattle.layout.specs.Layout.{slots}
-use Rattle.layout.proofs.Parameters.{Known, known-for, moduli-known}
+use Rattle.layout.proofs.Parameters.{known-for, moduli-known}
 use Rattle.words.specs.Halves.{otherAt}
 use Rattle.words.proofs.Told.{told-halves, told-apart}
 use Rattle.words.proofs.ones.two_ones.Statement.{statement}
