@@ -10,6 +10,7 @@ fn main() {
     layouts::closed_and_unfit();
     layouts::orders();
     layouts::all_lengths();
+    words::example();
     words::encodings();
     words::outputs();
     words::inverses();

@@ -132,6 +132,18 @@ fn third(code: Record, i: u32, j: u32) {
     text(b"\n");
 }
 
+// The README's example.
+pub(crate) fn example() {
+    text(b"example\n");
+    let code = coder::open(3, 2).record;
+    let mut word = [0u8; 7];
+    coder::encode(code, &[1, 0, 1, 0], &mut word);
+    let message = coder::read_message(code, &word);
+    digits(&word);
+    digits(message);
+    text(b"\n");
+}
+
 pub(crate) fn encodings() {
     text(b"encodings\n");
     let code = made(3, 2, 0, 0, 0, 0);

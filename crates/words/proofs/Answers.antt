@@ -9,7 +9,7 @@ use lib.ListN.{length, take, drop, length-append, length-drop}
 use lib.Pow.{pow-mono}
 use lib.Seq.{drop-drop, take-append-seam, drop-append-seam}
 use Rattle.group.specs.Group.{Modulus, moduli, zeros, sum, negative}
-use Rattle.layout.specs.Parameters.{admits, placesOf, messageOf}
+use Rattle.layout.specs.Parameters.{longest, admits, placesOf, messageOf}
 use Rattle.layout.specs.Layout.{units, message, places}
 use Rattle.layout.specs.Gate.{gate}
 use Rattle.layout.specs.Calls.{shapeFor}
@@ -39,7 +39,7 @@ not-admitted t r s e z = go (admits t r) refl
 pub laid : (t r : ℕ) (s : Shape) (n : ℕ) → Known t r s → s .message ≤ n → Laid (s .a) (s .b) (s .places + 1) (s .binary - s .a) n
 laid t r s n k h =
     let z = sizes-known t r s k in
-    let q : 2 ^ t ≤ 2 ^ 10 = pow-mono {i = t} {j = 10} (k .admitted .most) in
+    let q : 2 ^ t ≤ 2 ^ longest = pow-mono {i = t} {j = longest} (k .admitted .most) in
     record {
       components = z .room;
       all = sym (z .all);
