@@ -26,45 +26,26 @@ flip-bits on off = refl
 flip-bits on on = refl
 
 -- four bits, one of which flips: the first place of a pair, and the second
-flip-first : (z : List ℕ) (sl : List Slot) (d w : List ℕ) {a a′ b b′ : ℕ} → Bit a → Bit a′ → Bit b → Bit b′
-    → gray ((digit a a′ + digit (1 - b) b′) % 4) w ≡ flipAt (movedAt (pair z ∷ sl) (a ∷ a′ ∷ d) 0) (gray ((digit a a′ + digit b b′) % 4) w)
+flip-pair : (z : List ℕ) (sl : List Slot) (d w : List ℕ) {a a′ b b′ : ℕ} → Bit a → Bit a′ → Bit b → Bit b′
+    → (gray ((digit a a′ + digit (1 - b) b′) % 4) w ≡ flipAt (movedAt (pair z ∷ sl) (a ∷ a′ ∷ d) 0) (gray ((digit a a′ + digit b b′) % 4) w))
+    × (gray ((digit a a′ + digit b (1 - b′)) % 4) w ≡ flipAt (movedAt (pair z ∷ sl) (a ∷ a′ ∷ d) 1) (gray ((digit a a′ + digit b b′) % 4) w))
 unfolding flipAt movedAt otherAt
-flip-first z sl d w off off off off = refl
-flip-first z sl d w off off off on = refl
-flip-first z sl d w off off on off = refl
-flip-first z sl d w off off on on = refl
-flip-first z sl d w off on off off = refl
-flip-first z sl d w off on off on = refl
-flip-first z sl d w off on on off = refl
-flip-first z sl d w off on on on = refl
-flip-first z sl d w on off off off = refl
-flip-first z sl d w on off off on = refl
-flip-first z sl d w on off on off = refl
-flip-first z sl d w on off on on = refl
-flip-first z sl d w on on off off = refl
-flip-first z sl d w on on off on = refl
-flip-first z sl d w on on on off = refl
-flip-first z sl d w on on on on = refl
-
-flip-second : (z : List ℕ) (sl : List Slot) (d w : List ℕ) {a a′ b b′ : ℕ} → Bit a → Bit a′ → Bit b → Bit b′
-    → gray ((digit a a′ + digit b (1 - b′)) % 4) w ≡ flipAt (movedAt (pair z ∷ sl) (a ∷ a′ ∷ d) 1) (gray ((digit a a′ + digit b b′) % 4) w)
-unfolding flipAt movedAt otherAt
-flip-second z sl d w off off off off = refl
-flip-second z sl d w off off off on = refl
-flip-second z sl d w off off on off = refl
-flip-second z sl d w off off on on = refl
-flip-second z sl d w off on off off = refl
-flip-second z sl d w off on off on = refl
-flip-second z sl d w off on on off = refl
-flip-second z sl d w off on on on = refl
-flip-second z sl d w on off off off = refl
-flip-second z sl d w on off off on = refl
-flip-second z sl d w on off on off = refl
-flip-second z sl d w on off on on = refl
-flip-second z sl d w on on off off = refl
-flip-second z sl d w on on off on = refl
-flip-second z sl d w on on on off = refl
-flip-second z sl d w on on on on = refl
+flip-pair z sl d w off off off off = (refl, refl)
+flip-pair z sl d w off off off on = (refl, refl)
+flip-pair z sl d w off off on off = (refl, refl)
+flip-pair z sl d w off off on on = (refl, refl)
+flip-pair z sl d w off on off off = (refl, refl)
+flip-pair z sl d w off on off on = (refl, refl)
+flip-pair z sl d w off on on off = (refl, refl)
+flip-pair z sl d w off on on on = (refl, refl)
+flip-pair z sl d w on off off off = (refl, refl)
+flip-pair z sl d w on off off on = (refl, refl)
+flip-pair z sl d w on off on off = (refl, refl)
+flip-pair z sl d w on off on on = (refl, refl)
+flip-pair z sl d w on on off off = (refl, refl)
+flip-pair z sl d w on on off on = (refl, refl)
+flip-pair z sl d w on on on off = (refl, refl)
+flip-pair z sl d w on on on on = (refl, refl)
 
 flip-gray : (d : ℕ) (w : List ℕ) (i : ℕ) → gray d (flipAt i w) ≡ flipAt (suc (suc i)) (gray d w)
 unfolding flipAt
@@ -80,8 +61,8 @@ combine-flip (bit {e = e} {b = a} {sl = sl} {w = d} x r) (bit {w = w} y s) zero 
     rw (moved-alone e sl (a ∷ d)) (ap {B = List ℕ} (λ (b : ℕ). b ∷ combine sl d w) (flip-bits x y))
 combine-flip (bit {e = e} {b = a} {sl = sl} {w = d} x r) (bit {b = b} {w = w} y s) (suc i) =
     rw (moved-single e sl a d i) (ap {B = List ℕ} (λ (t : List ℕ). (a + b) % 2 ∷ t) (combine-flip r s i))
-combine-flip (bits {z = z} {sl = sl} {w = d} x x′ r) (bits {w = w} y y′ s) zero = flip-first z sl d (combine sl d w) x x′ y y′
-combine-flip (bits {z = z} {sl = sl} {w = d} x x′ r) (bits {w = w} y y′ s) (suc zero) = flip-second z sl d (combine sl d w) x x′ y y′
+combine-flip (bits {z = z} {sl = sl} {w = d} x x′ r) (bits {w = w} y y′ s) zero = flip-pair z sl d (combine sl d w) x x′ y y′ .0
+combine-flip (bits {z = z} {sl = sl} {w = d} x x′ r) (bits {w = w} y y′ s) (suc zero) = flip-pair z sl d (combine sl d w) x x′ y y′ .1
 combine-flip (bits {z = z} {b = a} {c = a′} {sl = sl} {w = d} x x′ r) (bits {b = b} {c = b′} {w = w} y y′ s) (suc (suc i)) =
     let n = (digit a a′ + digit b b′) % 4 in
     ap (gray n) (combine-flip r s i) ∙ flip-gray n (combine sl d w) (movedAt sl d i)
