@@ -10,7 +10,7 @@ use borrow.Author.Tests.{le-leb, lt-leb}
 use lib.ListN.{length, take, drop, getD, set, replicate, length-set, length-drop, length-take}
 use lib.Seq.{take-suc, take-suc-set, take-all, take-add, take-at, drop-at, drop-cons, drop-set-lt, append-snoc, length-take-le, lt-length-set, getD-set-same}
 use Rattle.group.specs.Group.{Modulus, one, two, four, radix, moduli, size}
-use Rattle.group.specs.Weights.{weighFrom, weightedFor}
+use Rattle.group.specs.Weights.{room, weighFrom, weightedFor}
 use Rattle.group.specs.Fold.{added, total, upper, sizeTo, weighTo}
 use Rattle.group.proofs.Fill.{length-moduli, zeros-moduli, radix-small}
 use Rattle.group.proofs.Weights.{length-added, added-append, size-snoc, weigh-one, weigh-two, weigh-four, length-weigh}
@@ -204,14 +204,14 @@ pub record Weighing (a b : ℕ) (s r : List ℕ) (n : ℕ) (w : List ℕ) (i : �
   pub full : length r ≡ 12
   pub rest : weighTo a b i w ++ drop i r ≡ weighTo a b 12 s
   pub count : n ≡ sizeTo a b i
-  pub fits : n ≤ 1024
-  pub long : length w ≡ 1024
+  pub fits : n ≤ room
+  pub long : length w ≡ room
 
-pub weigh-start : (a b : ℕ) (s : List ℕ) (n : ℕ) → n ≡ size (moduli a b) → n ≤ 1024 → length s ≡ 1024 → Weighing a b s (replicate 12 0) n s 12
+pub weigh-start : (a b : ℕ) (s : List ℕ) (n : ℕ) → n ≡ size (moduli a b) → n ≤ room → length s ≡ room → Weighing a b s (replicate 12 0) n s 12
 weigh-start a b s n e h l =
     record { within = omega arith; full = refl; rest = append-nil (weighTo a b 12 s); count = e ∙ sym (size-all a b); fits = h; long = l }
 
-divided : (m : Modulus) (n s : ℕ) → n ≡ s * radix m → n ≤ 1024 → (n / radix m ≡ s) × (n / radix m ≤ 1024)
+divided : (m : Modulus) (n s : ℕ) → n ≡ s * radix m → n ≤ room → (n / radix m ≡ s) × (n / radix m ≤ room)
 divided one n s e h = (omega arith, omega arith)
 divided two n s e h = (omega arith, omega arith)
 divided four n s e h = (omega arith, omega arith)
@@ -219,7 +219,7 @@ divided four n s e h = (omega arith, omega arith)
 -- one component less
 weigh-less :
     (a b : ℕ) (s r : List ℕ) (n : ℕ) (w : List ℕ) (i : ℕ) → Weighing a b s r n w i → 0 < i
-    → (n / radix (getD (moduli a b) (i - 1) one) ≡ sizeTo a b (i - 1)) × (n / radix (getD (moduli a b) (i - 1) one) ≤ 1024)
+    → (n / radix (getD (moduli a b) (i - 1) one) ≡ sizeTo a b (i - 1)) × (n / radix (getD (moduli a b) (i - 1) one) ≤ room)
 weigh-less a b s r n w i f h =
     let k = f .within in
     let e : i ≡ i - 1 + 1 = omega arith in
@@ -228,16 +228,16 @@ weigh-less a b s r n w i f h =
 -- what a round gives to `component`
 pub weigh-round :
     (a b : ℕ) (s r : List ℕ) (n : ℕ) (w : List ℕ) (i : ℕ) → Weighing a b s r n w i → 0 < i
-    → (i - 1 < 12) × (n / radix (getD (moduli a b) (i - 1) one) ≡ sizeTo a b (i - 1)) × (sizeTo a b (i - 1 + 1) ≤ length w) × (sizeTo a b (i - 1 + 1) ≤ 1024)
+    → (i - 1 < 12) × (n / radix (getD (moduli a b) (i - 1) one) ≡ sizeTo a b (i - 1)) × (sizeTo a b (i - 1 + 1) ≤ length w) × (sizeTo a b (i - 1 + 1) ≤ room)
 weigh-round a b s r n w i f h =
     let k = f .within in
     let e : i - 1 + 1 ≡ i = omega arith in
-    let t : sizeTo a b i ≤ 1024 = rw (← f .count) (f .fits) in
+    let t : sizeTo a b i ≤ room = rw (← f .count) (f .fits) in
     (omega arith, weigh-less a b s r n w i f h .0, rw (e, f .long) t, rw e t)
 
 pub weigh-step :
     (a b : ℕ) (s r : List ℕ) (n : ℕ) (w : List ℕ) (i c : ℕ) (u : List ℕ) → Weighing a b s r n w i → 0 < i
-    → weighTo a b (i - 1) u ++ (c ∷ []) ≡ weighTo a b (i - 1 + 1) w → length u ≡ 1024
+    → weighTo a b (i - 1) u ++ (c ∷ []) ≡ weighTo a b (i - 1 + 1) w → length u ≡ room
     → Weighing a b s (set r (i - 1) c) (n / radix (getD (moduli a b) (i - 1) one)) u (i - 1)
 weigh-step a b s r n w i c u f h e l =
     let k = f .within in
@@ -272,14 +272,14 @@ weigh-all : (a b : ℕ) (s : List ℕ) → weighTo a b 12 s ≡ weighFrom (modul
 weigh-all a b s = ap (λ (ms : List Modulus). weighFrom ms 0 (take (size ms) s)) (take-all 12 (moduli a b) (omega (arith, length-moduli a b)))
 
 pub weigh-done :
-    (a b : ℕ) (s r : List ℕ) (n : ℕ) (w : List ℕ) (i : ℕ) → Weighing a b s r n w i → i ≤ 0 → size (moduli a b) ≤ 1024 → r ≡ weightedFor a b s
+    (a b : ℕ) (s r : List ℕ) (n : ℕ) (w : List ℕ) (i : ℕ) → Weighing a b s r n w i → i ≤ 0 → size (moduli a b) ≤ room → r ≡ weightedFor a b s
 unfolding weightedFor
 weigh-done a b s r n w i f h k =
     let z : i ≡ 0 = omega arith in
     let t : weighTo a b 0 w ++ r ≡ weighTo a b 12 s = rw z at (f .rest) in
     let g : r ≡ weighTo a b 12 s = rw (weigh-none a b w) at t in
-    rw (weightedFor, le-leb (size (moduli a b)) 1024 k) (g ∙ weigh-all a b s)
+    rw (weightedFor, le-leb (size (moduli a b)) room k) (g ∙ weigh-all a b s)
 
-pub weigh-over : (a b : ℕ) (s : List ℕ) → 1024 < size (moduli a b) → replicate 12 0 ≡ weightedFor a b s
+pub weigh-over : (a b : ℕ) (s : List ℕ) → room < size (moduli a b) → replicate 12 0 ≡ weightedFor a b s
 unfolding weightedFor
-weigh-over a b s k = rw (weightedFor, lt-leb (size (moduli a b)) 1024 k) (sym (zeros-moduli a b))
+weigh-over a b s k = rw (weightedFor, lt-leb (size (moduli a b)) room k) (sym (zeros-moduli a b))

@@ -11,6 +11,7 @@ ghost use lib.ListN.{getD};
 ghost use Rattle.group.specs.Group.{one, radix, moduli, zeros, sum, negative, times, number, element};
 ghost use Rattle.group.specs.Sign.{same, allZero, firstOf};
 pub use sign::sign_of;
+pub use weigh::ROOM;
 pub use weigh::Weights;
 pub use weigh::weighted;
 

@@ -5,12 +5,14 @@ ghost use mathlib.Core.List.{[], _∷_, _++_};
 ghost use Prim.Native.Nat.{_+_, _*_, _%_, _<_, _≤_};
 ghost use lib.ListN.{length, take};
 ghost use Rattle.group.specs.Group.{moduli, size};
-ghost use Rattle.group.specs.Weights.{weightedFor};
+ghost use Rattle.group.specs.Weights.{room, weightedFor};
 ghost use Rattle.group.specs.Fold.{added, total, upper, sizeTo, weighTo};
 use crate::Element;
 
-// A weight for each element, by its number.
-pub type Weights = [u8; 1024];
+// How many weights there is room for, and a weight for each element, by its number.
+pub const ROOM: usize = 1024;
+
+pub type Weights = [u8; ROOM];
 
 // The sum of the elements, each times its weight; zero where there are more elements than weights.
 pub fn weighted(a: usize, b: usize, v: Weights) -> Element
@@ -18,7 +20,7 @@ pub fn weighted(a: usize, b: usize, v: Weights) -> Element
 {
     let mut r = [0u8; 12];
     let mut n = count(a, b);
-    if 1024 < n {
+    if ROOM < n {
         return r;
     }
     let mut w = v;
@@ -47,7 +49,7 @@ fn count(a: usize, b: usize) -> usize
 // Component i of the sum, where the components before it have n numbers; the first n weights become
 // those of these numbers.
 fn component(a: usize, b: usize, i: usize, n: usize, v: &mut [u8]) -> u8
-    requires { ⌜ (i < 12) × (n ≡ sizeTo a b i) × (sizeTo a b (i + 1) ≤ length (now v)) × (sizeTo a b (i + 1) ≤ 1024) ⌝ }
+    requires { ⌜ (i < 12) × (n ≡ sizeTo a b i) × (sizeTo a b (i + 1) ≤ length (now v)) × (sizeTo a b (i + 1) ≤ room) ⌝ }
     ensures { λ r. ⌜ weighTo a b i (now (v .exit)) ++ (r ∷ []) ≡ weighTo a b (i + 1) (now (v .entry)) ⌝ }
 {
     if i < a {
@@ -64,7 +66,7 @@ fn component(a: usize, b: usize, i: usize, n: usize, v: &mut [u8]) -> u8
 // The sum of the weights of the upper n of 2 n numbers, modulo 4; the first n weights become those of
 // the numbers with the highest bit taken off.
 fn fold(n: usize, v: &mut [u8]) -> u8
-    requires { ⌜ (2 * n ≤ length (now v)) × (n ≤ 1024) ⌝ }
+    requires { ⌜ (2 * n ≤ length (now v)) × (n ≤ room) ⌝ }
     ensures { λ r. ⌜ (r ≡ total (upper n (now (v .entry))) % 4) × (take n (now (v .exit)) ≡ added (take n (now (v .entry))) (upper n (now (v .entry)))) ⌝ }
 {
     let mut c: u32 = 0;

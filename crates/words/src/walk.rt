@@ -102,7 +102,7 @@ fn weights(a: usize, b: usize, count: usize, part: usize, word: &[u8]) -> Weight
     requires { ⌜ Laid a b count part (length (now word)) ⌝ }
     ensures { λ r. ⌜ weighFrom (moduli a b) 0 (take count r) ≡ syndromeOver (moduli a b) (message (moduli a b)) (now (word .entry)) ⌝ }
 {
-    let mut v = [0u8; 1024];
+    let mut v = [0u8; group::ROOM];
     let mut single: usize = 0;
     let mut pair = part;
     let mut u = Unit {

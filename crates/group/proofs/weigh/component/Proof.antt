@@ -4,6 +4,7 @@ use mathlib.Core.Path.{_≡_}
 use Prim.Native.Nat.{_*_, _≤_}
 use denote.Ref.{now}
 use lib.ListN.{length, getD}
+use Rattle.group.specs.Weights.{room}
 use Rattle.group.specs.Group.{one, two, four, moduli}
 use Rattle.group.proofs.Fill.{moduli-two, moduli-four, moduli-one}
 use Rattle.group.proofs.Folds.{room-with, to-one, to-two, to-four}
@@ -20,19 +21,19 @@ four-at :
 four-at l = moduli-four _ _ _ (l .before .before .before .pre .0) (l .before .if1 .left) (l .if2 .taken)
 
 -- at a modulus 2 there are 2 n weights, at a modulus 4 there are 4 n, and no more than 1,024
-fits-two : (l : tie.Then1) → (l .before .before .args .n * 2 ≤ length (now (l .before .before .args .v))) × (l .before .before .args .n * 2 ≤ 1024)
+fits-two : (l : tie.Then1) → (l .before .before .args .n * 2 ≤ length (now (l .before .before .args .v))) × (l .before .before .args .n * 2 ≤ room)
 fits-two l =
     let g = l .before .before in
     let r = room-with (g .args .a) (g .args .b) (g .args .i) (g .args .n) two (g .pre .0) (two-at l) (g .pre .1) in
-    (r (length (now (g .args .v))) (g .pre .2), r 1024 (g .pre .3))
+    (r (length (now (g .args .v))) (g .pre .2), r room (g .pre .3))
 
 fits-four :
     (l : tie.Then2)
-    → (l .before .before .before .args .n * 4 ≤ length (now (l .before .before .before .args .v))) × (l .before .before .before .args .n * 4 ≤ 1024)
+    → (l .before .before .before .args .n * 4 ≤ length (now (l .before .before .before .args .v))) × (l .before .before .before .args .n * 4 ≤ room)
 fits-four l =
     let g = l .before .before .before in
     let r = room-with (g .args .a) (g .args .b) (g .args .i) (g .args .n) four (g .pre .0) (four-at l) (g .pre .1) in
-    (r (length (now (g .args .v))) (g .pre .2), r 1024 (g .pre .3))
+    (r (length (now (g .args .v))) (g .pre .2), r room (g .pre .3))
 
 fold-requires : tie.Need-fold-requires
 fold-requires c κs = let f = fits-two (c .before) in search needs
