@@ -1,19 +1,23 @@
--- The theorems on words gathered: `word-group` for every list of moduli, and `code` for admitted t and r. Assumes nothing.
-use mathlib.Core.Path.{_≡_, sym, ap, _∙_, subst}
+-- The theorems on words gathered: `word-group` and `pair-halves` for every list of moduli, and `code` for admitted t and r. Assumes nothing.
+use mathlib.Core.Path.{_≡_, refl, sym, ap, _∙_, subst}
+use mathlib.Core.Logic.{_≢_}
 use mathlib.Core.List.{List}
-use Prim.Native.Nat.{ℕ}
+use Prim.Native.Nat.{ℕ, zero, suc, _≤_, _<_}
 use native.Mathlib.Omega.{arith}
 use lib.ListN.{length, take}
-use Rattle.group.specs.Group.{Modulus, sum, negative}
+use Rattle.group.specs.Group.{Modulus, zeros, sum, negative}
+use Rattle.group.proofs.Laws.{negative-zeros}
 use Rattle.layout.specs.Parameters.{Admitted, placesOf, messageOf, moduliFor}
-use Rattle.layout.specs.Layout.{slots, places}
+use Rattle.layout.specs.Layout.{slots, places, elementAt}
 use Rattle.layout.proofs.Sizes.{length-places}
-use Rattle.layout.proofs.Places.{good-slots}
+use Rattle.layout.proofs.Places.{good-slots, valid-at-place, place-nonzero, place-unique}
 use Rattle.layout.proofs.Theorem.{layout}
 use Rattle.words.specs.Words.{Word, zeroWord, combine, inverse}
 use Rattle.words.specs.Syndrome.{syndrome, lengthOf}
 use Rattle.words.specs.Coding.{encode}
-use Rattle.words.specs.Claims.{messageLengthOf, GroupOf, CodeOf}
+use Rattle.words.specs.Claims.{messageLengthOf, GroupOf, HalvesOf, CodeOf}
+use Rattle.words.specs.Halves.{otherAt, otherHalf}
+use Rattle.words.proofs.OtherHalf.{other-other, other-lt, other-negative}
 use Rattle.words.proofs.Reading.{word-reads, reads-word}
 use Rattle.words.proofs.Combining.{combine-reads, inverse-reads, combine-comm, combine-assoc, combine-zero, combine-inverse, syndrome-combine, syndrome-inverse}
 use Rattle.words.proofs.Distances.{perfect}
@@ -48,6 +52,43 @@ module _ (ms : List Modulus) where
         ones = one-element ms;
       }
 
+-- ---- the halves of pairs
+module _ (ms : List Modulus) where
+  within : (p : ℕ) → p ≤ lengthOf ms → otherHalf (slots ms) p ≤ lengthOf ms
+  within zero h = omega arith
+  within (suc i) h = let l = length-slots ms in let k = other-lt ms (slots ms) i (omega arith) in omega arith
+
+  twice : (p : ℕ) → otherHalf (slots ms) (otherHalf (slots ms) p) ≡ p
+  twice zero = refl
+  twice (suc i) = ap suc (other-other (slots ms) i)
+
+  negates-half : (p : ℕ) → elementAt ms (otherHalf (slots ms) p) ≡ negative ms (elementAt ms p)
+  unfolding elementAt
+  negates-half zero = sym (negative-zeros ms)
+  negates-half (suc i) = other-negative ms (slots ms) i (good-slots ms)
+
+  nonzero : (i : ℕ) → i < length (places ms (slots ms)) → elementAt ms (suc i) ≢ zeros ms
+  unfolding elementAt
+  nonzero i l = place-nonzero ms i l
+
+  -- an element that is its own negative stands at one place alone
+  same-place : (p : ℕ) → p ≤ lengthOf ms → negative ms (elementAt ms p) ≡ elementAt ms p → otherHalf (slots ms) p ≡ p
+  same-place zero h e = refl
+  same-place (suc i) h e =
+      let n : elementAt ms (suc i) ≢ zeros ms = nonzero i (let l = length-slots ms in omega arith) in
+      let v = valid-at-place ms (suc i) in
+      sym (place-unique ms (elementAt ms (suc i)) (suc (otherAt (slots ms) i)) v n (omega arith) (negates-half (suc i) ∙ e))
+      ∙ place-unique ms (elementAt ms (suc i)) (suc i) v n (omega arith) refl
+
+  pub pair-halves : HalvesOf ms
+  pair-halves =
+      record {
+        within = within;
+        twice = twice;
+        negates = negates-half;
+        alone = λ p h. ((λ e. sym (negates-half p) ∙ ap (elementAt ms) e), same-place p h);
+      }
+
 -- ---- admitted t and r
 module _ (t r : ℕ) (ok : Admitted t r) where
   pub length-code : lengthOf (moduliFor t r) ≡ placesOf t
@@ -66,6 +107,7 @@ module _ (t r : ℕ) (ok : Admitted t r) where
       let m = length-message-code in
       record {
         groups = word-group ms;
+        halves = pair-halves ms;
         perfect = λ w h. perfect ms w (word-code h);
         carries = λ d w c h. carried ms d w c (word-code h);
         encodes = λ x h. encodes ms x (subst (λ (k : ℕ). Word k x) (sym m) h);

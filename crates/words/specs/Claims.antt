@@ -1,6 +1,6 @@
 -- What the theorems on words say, for any list of moduli; proofs/ shows each of them. Assumes nothing.
 use mathlib.Core.Path.{_≡_}
-use mathlib.Core.Logic.{_≢_}
+use mathlib.Core.Logic.{_≢_, _↔_}
 use mathlib.Core.List.{List}
 use Prim.Native.Nat.{ℕ, _≤_, _<_}
 use lib.ListN.{length, take}
@@ -9,7 +9,7 @@ use Rattle.layout.specs.Parameters.{placesOf, messageOf, moduliFor}
 use Rattle.layout.specs.Layout.{places, message, slots, elementAt}
 use Rattle.words.specs.Words.{Word, zeroWord, flip, distance, weight, combine, inverse}
 use Rattle.words.specs.Syndrome.{syndrome, Codeword, lengthOf}
-use Rattle.words.specs.Halves.{moved}
+use Rattle.words.specs.Halves.{otherHalf, moved}
 use Rattle.words.specs.Coding.{encode, corrected, correctedPlace, onesAt, third}
 
 -- combining is an abelian group law on the words of n bits, the syndrome a homomorphism to the group of elements, and the word with a single
@@ -25,6 +25,14 @@ pub record GroupOf (ms : List Modulus) : Type 0 where
       → syndrome ms (combine (slots ms) x y) ≡ sum ms (syndrome ms x) (syndrome ms y)
   pub negates : (x : List ℕ) → Word (lengthOf ms) x → syndrome ms (inverse (slots ms) x) ≡ negative ms (syndrome ms x)
   pub ones : (p : ℕ) → p ≤ lengthOf ms → syndrome ms (flip p (zeroWord (lengthOf ms))) ≡ elementAt ms p
+
+-- the other half of a place: its element is the negative, and its own other half is the place; a binary place, whose element is its own
+-- negative, is its own other half
+pub record HalvesOf (ms : List Modulus) : Type 0 where
+  pub within : (p : ℕ) → p ≤ lengthOf ms → otherHalf (slots ms) p ≤ lengthOf ms
+  pub twice : (p : ℕ) → otherHalf (slots ms) (otherHalf (slots ms) p) ≡ p
+  pub negates : (p : ℕ) → elementAt ms (otherHalf (slots ms) p) ≡ negative ms (elementAt ms p)
+  pub alone : (p : ℕ) → p ≤ lengthOf ms → (otherHalf (slots ms) p ≡ p) ↔ (negative ms (elementAt ms p) ≡ elementAt ms p)
 
 -- the code is perfect: exactly one codeword is within one place of w, and correction gives it and the place
 pub record PerfectAt (ms : List Modulus) (w : List ℕ) : Type 0 where
@@ -69,6 +77,7 @@ pub record ThirdOf (ms : List Modulus) (i j : ℕ) : Type 0 where
 -- all of it for the code with t and r: words of n bits and messages of n − t
 pub record CodeOf (t r : ℕ) : Type 0 where
   pub groups : GroupOf (moduliFor t r)
+  pub halves : HalvesOf (moduliFor t r)
   pub perfect : (w : List ℕ) → Word (placesOf t) w → PerfectAt (moduliFor t r) w
   pub carries : (d w : List ℕ) → Codeword (moduliFor t r) d → Word (placesOf t) w → CarriedBy (moduliFor t r) d w
   pub encodes : (m : List ℕ) → Word (messageOf t) m → EncodingOf (moduliFor t r) m
