@@ -1,7 +1,7 @@
 -- Two different places have exactly one third place, another than both. Assumes nothing.
-use mathlib.Core.Path.{_≡_, refl, sym, ap, _∙_}
+use mathlib.Core.Path.{_≡_, refl, sym, ap, ap₂, _∙_}
 use mathlib.Core.Logic.{_≢_}
-use mathlib.Core.Bool.{Bool, true, false, true≢false}
+use mathlib.Core.Bool.{Bool, true, false, _&&_, true≢false}
 use mathlib.Core.List.{List}
 use Prim.Native.Nat.{ℕ, zero, suc, _+_, _<_, _≤_}
 use native.Mathlib.Omega.{arith}
@@ -9,6 +9,7 @@ use native.Mathlib.Decide.{ℕ-discrete}
 use lib.Dec.{eqb}
 use lib.ListN.{length, getD, length-replicate}
 use Rattle.group.specs.Group.{Modulus, zeros}
+use Rattle.group.specs.Sign.{allZero}
 use Rattle.group.proofs.Signs.{both, allZero-zeros, zeros-allZero}
 use Rattle.layout.specs.Layout.{slots, places}
 use Rattle.layout.proofs.Sizes.{length-places}
@@ -17,7 +18,7 @@ use Rattle.words.specs.Words.{Bits, zeroWord, weight, flipAt, flip}
 use Rattle.words.specs.Syndrome.{syndromeOver, syndrome, lengthOf}
 use Rattle.words.specs.Coding.{isCodeword, makesThree, third}
 use Rattle.words.specs.Claims.{ThreeAt, ThirdOf}
-use Rattle.words.proofs.Reading.{Reads, bits, word-reads, reads-word, valid-syndrome}
+use Rattle.words.proofs.Reading.{Reads, word-reads, reads-word, valid-syndrome}
 use Rattle.words.proofs.Combining.{syndrome-zero}
 use Rattle.words.proofs.Flips.{flip-reads, flip-twice, flip-comm, length-flipAt, flipped-there, weight-flipAt}
 use Rattle.words.proofs.Perfect.{fault, fault-within, fault-zero, fault-only}
@@ -137,7 +138,7 @@ module _ (ms : List Modulus) (i j : ℕ) (hi : i < lengthOf ms) (hj : j < length
   three-only k t = fault-only ms twoOnes two-reads k (t .most) (t .codeword .isZero)
 
   passes : (k : ℕ) → ThreeAt ms (suc i) (suc j) k → makesThree ms (suc i) (suc j) k ≡ true
-  passes k t = rw (t .codeword .isZero, zeros-allZero ms, t .weighs)
+  passes k t = ap₂ _&&_ (ap allZero (t .codeword .isZero) ∙ zeros-allZero ms) (ap (λ (n : ℕ). eqb n 3) (t .weighs))
 
   passed : (k : ℕ) → k ≤ lengthOf ms → makesThree ms (suc i) (suc j) k ≡ true → k ≡ fault ms twoOnes
   passed k h t =
