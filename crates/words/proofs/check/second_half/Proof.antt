@@ -1,4 +1,4 @@
--- `words::second_half` meets its contract. Assumes nothing.
+-- `words::check::second_half` meets its contract. Assumes nothing.
 use borrow.Author.Needs.{needs}
 use mathlib.Core.Path.{_≡_, refl}
 use mathlib.Core.List.{[]}

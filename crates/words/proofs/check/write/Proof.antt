@@ -1,4 +1,4 @@
--- `words::write` meets its contract: each turn writes the digit of one component. Assumes nothing.
+-- `words::check::write` meets its contract: each turn writes the digit of one component. Assumes nothing.
 use borrow.Author.Needs.{needs}
 use mathlib.Core.Logic.{⊎-elim}
 use Prim.Native.Nat.{_-_}

@@ -1,4 +1,4 @@
--- `words::after` meets its contract. Assumes nothing.
+-- `words::walk::after` meets its contract. Assumes nothing.
 use borrow.Author.Needs.{needs}
 use Rattle.words.proofs.NextUnits.{unit-stays, next-two, next-four}
 use Rattle.words.proofs.walk.after.Statement.{statement}

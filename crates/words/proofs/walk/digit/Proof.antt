@@ -1,4 +1,4 @@
--- `words::digit` meets its contract: the Gray map, read. Assumes nothing.
+-- `words::walk::digit` meets its contract: the Gray map, read. Assumes nothing.
 use borrow.Author.Needs.{needs}
 use mathlib.Core.Path.{_≡_, refl}
 use Prim.Native.Nat.{ℕ, zero, suc}

@@ -1,4 +1,4 @@
--- `words::message_sum` meets its contract. Assumes nothing.
+-- `words::walk::message_sum` meets its contract. Assumes nothing.
 use borrow.Author.Needs.{needs}
 use mathlib.Core.Path.{_∙_}
 use Rattle.words.proofs.Walks.{walk-sum}

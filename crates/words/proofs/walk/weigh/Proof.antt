@@ -1,4 +1,4 @@
--- `words::weigh` meets its contract: a unit, a single, a pair, or neither. Assumes nothing.
+-- `words::walk::weigh` meets its contract: a unit, a single, a pair, or neither. Assumes nothing.
 use borrow.Author.Needs.{needs}
 use native.Mathlib.Omega.{arith}
 use Rattle.words.proofs.Walking.{step-unit, step-single, step-pair, step-none}

@@ -1,4 +1,4 @@
--- `words::weights` meets its contract: each turn gives one number its weight. Assumes nothing.
+-- `words::walk::weights` meets its contract: each turn gives one number its weight. Assumes nothing.
 use borrow.Author.Needs.{needs}
 use mathlib.Core.Path.{refl, sym, _∙_}
 use Prim.Native.Nat.{_-_}
