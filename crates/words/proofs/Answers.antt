@@ -1,5 +1,5 @@
 -- What the calls answer, by their tests: the shape of the parameters, and the lengths. Assumes nothing.
-use mathlib.Core.Path.{_≡_, refl, sym, ap, subst, _∙_}
+use mathlib.Core.Path.{_≡_, refl, sym, ap, ap₂, subst, _∙_}
 use mathlib.Core.Bool.{Bool, true, false, and-false}
 use mathlib.Core.List.{List, _++_, append-assoc}
 use Prim.Native.Nat.{ℕ, _+_, _-_, _*_, _^_, _<_, _≤_}
@@ -10,15 +10,16 @@ use lib.Pow.{pow-mono}
 use lib.Seq.{drop-drop, take-append-seam, drop-append-seam}
 use Rattle.group.specs.Group.{Modulus, moduli, zeros, sum, negative}
 use Rattle.layout.specs.Parameters.{longest, admits, placesOf, messageOf}
-use Rattle.layout.specs.Layout.{units, message, places}
+use Rattle.layout.specs.Layout.{units, message, slots, places}
 use Rattle.layout.specs.Gate.{gate}
 use Rattle.layout.specs.Calls.{shapeFor}
 use Rattle.layout.specs.declared.Shape.{Shape}
 use Rattle.layout.proofs.Parameters.{admits-admitted, admitted-admits, below-power, Known, moduli-known, sizes-known, zeros-for}
 use Rattle.layout.proofs.Sizes.{length-message}
+use Rattle.words.specs.Words.{inverse}
 use Rattle.words.specs.Syndrome.{syndromeOver, syndrome}
 use Rattle.words.specs.Coding.{checkDigits, encode}
-use Rattle.words.specs.Calls.{syndromeFor, encodeFor}
+use Rattle.words.specs.Calls.{syndromeFor, encodeFor, invertFor}
 use Rattle.words.specs.Walk.{Laid}
 use Rattle.words.proofs.Syndromes.{syndrome-split}
 
@@ -115,3 +116,31 @@ module _ (t r : ℕ) (m old : List ℕ) (s : Shape) where
 -- a copy to the front of an output leaves its length
 pub copied-length : (m old copied : List ℕ) → length m ≤ length old → copied ≡ m ++ drop (length m) old → length copied ≡ length old
 copied-length m old copied h e = rw (e, length-append, length-drop) (omega arith)
+
+-- ---- the inverse
+module _ (t r : ℕ) (w old : List ℕ) (s : Shape) where
+  pub invert-none : s ≡ shapeFor t r → s .places ≡ 0 → old ≡ invertFor t r w old
+  unfolding invertFor
+  invert-none e z = rw (not-admitted t r s e z)
+
+  pub invert-short : Known t r s → length w < s .places → old ≡ invertFor t r w old
+  unfolding invertFor
+  invert-short k h =
+      let l : length w < placesOf t = subst (λ (n : ℕ). length w < n) (k .places) h in
+      rw (lt-leb (placesOf t) (length w) l, and-false)
+
+  pub invert-narrow : Known t r s → length old < s .places → old ≡ invertFor t r w old
+  unfolding invertFor
+  invert-narrow k h =
+      let l : length old < placesOf t = subst (λ (n : ℕ). length old < n) (k .places) h in
+      rw (lt-leb (placesOf t) (length old) l, and-false, and-false)
+
+  -- a word and an output that are long enough
+  pub invert-whole : Known t r s → s .places ≤ length w → s .places ≤ length old
+      → inverse (slots (moduli (s .a) (s .b))) w ++ drop (s .places) old ≡ invertFor t r w old
+  unfolding invertFor
+  invert-whole k h l =
+      let h′ : placesOf t ≤ length w = subst (λ (n : ℕ). n ≤ length w) (k .places) h in
+      let l′ : placesOf t ≤ length old = subst (λ (n : ℕ). n ≤ length old) (k .places) l in
+      rw (admitted-admits t r (k .admitted), le-leb (placesOf t) (length w) h′, le-leb (placesOf t) (length old) l′)
+      (ap₂ (λ (ms : List Modulus) (n : ℕ). inverse (slots ms) w ++ drop n old) (moduli-known t r s k) (k .places))

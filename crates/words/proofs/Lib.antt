@@ -4,8 +4,8 @@
 -- admitted t and r. Table has document 01's cases marked P.
 -- For the code: Syndromes (the syndrome of any bytes, by its parts), Walking, NextUnits and Walks (the walk over the numbers), Checking and
 -- CheckWriting (check digits read and written), OtherHalf (the other half of a pair, by index), TwoOnes and Told (the third place from the
--- elements of two), Writing (a loop that writes over the front of an output), Shapes (the numbers of a code), Answers and Inverting (the
--- calls by their tests).
+-- elements of two), Writing (a loop that writes over the front of an output), Shapes (the numbers of a code), Answers (the calls by
+-- their tests).
 pub mod Reading
 pub mod Combining
 pub mod Flips
@@ -29,4 +29,3 @@ pub mod Told
 pub mod Writing
 pub mod Shapes
 pub mod Answers
-pub mod Inverting

@@ -14,6 +14,7 @@ use Rattle.layout.proofs.Cover.{places-singles}
 use Rattle.layout.proofs.Sizes.{length-message}
 use Rattle.words.specs.Words.{inverse}
 use Rattle.words.specs.Halves.{otherAt}
+use Rattle.words.proofs.Syndromes.{hd-drop}
 
 -- ---- any slots
 pub other-other : (sl : List Slot) (i : ℕ) → otherAt sl (otherAt sl i) ≡ i
@@ -46,10 +47,6 @@ other-negative ms (pair z ∷ sl) (suc zero) g = refl
 other-negative ms (pair z ∷ sl) (suc (suc i)) g = other-negative ms sl i (g .2)
 
 -- ---- the inverse of a word, by index
-first-at : (w : List ℕ) → hd w ≡ getD w 0 0
-first-at [] = refl
-first-at (b ∷ w) = refl
-
 later-at : (w : List ℕ) (i : ℕ) → getD (tl w) i 0 ≡ getD w (suc i) 0
 later-at [] i = refl
 later-at (b ∷ w) i = refl
@@ -58,10 +55,10 @@ pub inverse-at : (ms : List Modulus) (sl : List Slot) (w : List ℕ) (i : ℕ) �
     → getD (inverse sl w) i 0 ≡ getD w (otherAt sl i) 0
 unfolding inverse otherAt places
 inverse-at ms [] w i h = absurd (omega arith)
-inverse-at ms (single e ∷ sl) w zero h = first-at w
+inverse-at ms (single e ∷ sl) w zero h = hd-drop w 0
 inverse-at ms (single e ∷ sl) w (suc i) h = inverse-at ms sl (tl w) i (omega arith) ∙ later-at w (otherAt sl i)
-inverse-at ms (pair z ∷ sl) w zero h = first-at (tl w) ∙ later-at w 0
-inverse-at ms (pair z ∷ sl) w (suc zero) h = first-at w
+inverse-at ms (pair z ∷ sl) w zero h = hd-drop (tl w) 0 ∙ later-at w 0
+inverse-at ms (pair z ∷ sl) w (suc zero) h = hd-drop w 0
 inverse-at ms (pair z ∷ sl) w (suc (suc i)) h =
     inverse-at ms sl (tl (tl w)) i (omega arith) ∙ later-at (tl w) (otherAt sl i) ∙ later-at w (suc (otherAt sl i))
 

@@ -39,7 +39,7 @@ pub record PerfectAt (ms : List Modulus) (w : List ℕ) : Type 0 where
   pub codeword : Codeword ms (corrected ms w)
   pub near : distance (corrected ms w) w ≤ 1
   pub only : (c : List ℕ) → Codeword ms c → distance c w ≤ 1 → c ≡ corrected ms w
-  -- the place told: the word is flipped there, and is a codeword flipped there alone; place 0 is the word itself
+  -- the place told: flipped there, w is that codeword, and flipped at any other place it is none; flipped at place 0 it is w itself
   pub within : correctedPlace ms w ≤ lengthOf ms
   pub flipped : corrected ms w ≡ flip (correctedPlace ms w) w
   pub place : (p : ℕ) → p ≤ lengthOf ms → Codeword ms (flip p w) → p ≡ correctedPlace ms w

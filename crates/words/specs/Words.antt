@@ -23,7 +23,7 @@ pub record Word (n : ℕ) (w : List ℕ) : Type 0 where
 abbrev pub zeroWord : ℕ → List ℕ
 zeroWord n = replicate n 0
 
--- how many places of a word hold a 1
+-- how many places of a word hold a 1: the sum of its bytes
 unfoldable pub weight : List ℕ → ℕ
 weight [] = 0
 weight (b ∷ w) = b + weight w

@@ -63,11 +63,11 @@ pub fn encode(t: u32, r: u32, message: &[u8], out: &mut [u8])
 pub fn invert(t: u32, r: u32, word: &[u8], out: &mut [u8])
     ensures { λ x. ⌜ now (out .exit) ≡ invertFor t r (now (word .entry)) (now (out .entry)) ⌝ }
 {
-    if !layout::admitted(t, r) {
-        return;
-    }
     let s = layout::shape_of(t, r);
     let n = s.places as usize;
+    if n == 0 {
+        return;
+    }
     if word.len() < n {
         return;
     }

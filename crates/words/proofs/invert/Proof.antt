@@ -1,26 +1,11 @@
 -- `words::invert` meets its contract: a word and an output that are long enough are swapped, all else is left. Assumes nothing.
 use borrow.Author.Needs.{needs}
-use borrow.Author.Tests.{not-true, not-false}
-use mathlib.Core.Path.{_≡_, sym, ap₂, _∙_}
-use mathlib.Core.Bool.{true}
-use mathlib.Core.List.{List, _++_}
-use Prim.Native.Nat.{ℕ}
+use mathlib.Core.Path.{_∙_}
 use native.Mathlib.Omega.{arith}
-use lib.ListN.{drop}
-use Rattle.group.specs.Group.{Modulus}
-use Rattle.layout.specs.Layout.{slots}
-use Rattle.layout.specs.Parameters.{admits}
-use Rattle.layout.proofs.Parameters.{Known, known-for, admits-admitted, moduli-known, below-power}
-use Rattle.words.specs.Words.{inverse}
-use Rattle.words.proofs.Inverting.{invert-none, invert-short, invert-narrow, invert-done}
+use Rattle.layout.proofs.Parameters.{Known, known}
+use Rattle.words.proofs.Answers.{invert-none, invert-short, invert-narrow, invert-whole}
 use Rattle.words.proofs.invert.Statement.{statement}
 use Rattle.words.proofs.invert.Tie as tie
-
-admitted-requires : tie.Need-admitted-requires
-admitted-requires c κs = search needs
-
-returns : tie.Need-returns
-returns c = invert-none _ _ _ _ (sym (c .before .admitted .ensures) ∙ not-true _ (c .if1 .taken))
 
 shape-of-requires : tie.Need-shape-of-requires
 shape-of-requires c κs = search needs
@@ -28,53 +13,41 @@ shape-of-requires c κs = search needs
 cast-n : tie.Need-cast-n
 cast-n c = search needs
 
--- past the first test the parameters are admitted
-passes : (c : tie.Else1) → admits (c .before .before .before .before .args .t) (c .before .before .before .before .args .r) ≡ true
-passes c = sym (c .before .admitted .ensures) ∙ not-false _ (c .if1 .left)
+returns : tie.Need-returns
+returns c = invert-none _ _ _ _ _ (c .before .before .shape-of .ensures) (c .if1 .taken)
 
-shape : (c : tie.After-shape-of)
-    → Known (c .before .before .before .before .before .args .t) (c .before .before .before .before .before .args .r) (c .shape-of .result)
-shape c = known-for _ _ _ (c .shape-of .ensures) (admits-admitted _ _ (passes (c .before)))
+-- past the first test the parameters are admitted
+shaped : (c : tie.Else1)
+    → let s = c .before .before in Known (s .before .before .before .args .t) (s .before .before .before .args .r) (s .shape-of .result)
+shaped c = known _ _ _ (c .before .before .shape-of .ensures) (let h = c .if1 .left in omega arith)
 
 returns-2 : tie.Need-returns-2
-returns-2 c =
-    let q = c .before .before in
-    let k = shape q in
-    invert-short _ _ _ _ (passes (q .before)) (omega (arith, k .places))
+returns-2 c = invert-short _ _ _ _ _ (shaped (c .before)) (c .if2 .taken)
 
 returns-3 : tie.Need-returns-3
-returns-3 c =
-    let q = c .before .before .before in
-    let k = shape q in
-    invert-narrow _ _ _ _ (passes (q .before)) (omega (arith, k .places)) (omega (arith, k .places))
+returns-3 c = invert-narrow _ _ _ _ _ (shaped (c .before .before)) (c .if3 .taken)
 
 swap-requires : tie.Need-swap-requires
 swap-requires c κs =
-    let q = c .before .before .before .before in
-    let k = shape q in
-    let l = below-power (q .before .before .before .before .before .args .t) in
-    ((_, _, q .shape-of .ensures), omega (arith, k .places, k .admitted .least), omega arith, omega arith)
+    let q = c .before in
+    let h = q .before .before .if1 .left in
+    ((_, _, q .before .before .before .before .shape-of .ensures), omega arith, q .before .if2 .left, q .if3 .left)
 
 same-length : tie.Need-same-length
 same-length c = search needs
 
 returns-4 : tie.Need-returns-4
 returns-4 c =
-    let q = c .before .before .before .before .before .before .before in
-    let g = q .before .before .before .before .before .args in
-    let k = shape q in
-    c .before .before .swap .ensures
-    ∙ ap₂ (λ (ms : List Modulus) (n : ℕ). inverse (slots ms) (g .word .now) ++ drop n (g .out .now)) (moduli-known _ _ _ k) (k .places)
-    ∙ invert-done _ _ _ _ (passes (q .before)) (omega (arith, k .places)) (omega (arith, k .places))
+    let q = c .before .before .before .before in
+    c .before .before .swap .ensures ∙ invert-whole _ _ _ _ _ (shaped (q .before .before)) (q .before .if2 .left) (q .if3 .left)
 
 pub invert-spec : {M : Type 1} → statement M
 invert-spec =
     tie.close
     (tie.spec
-    admitted-requires
-    returns
     shape-of-requires
     cast-n
+    returns
     returns-2
     returns-3
     swap-requires
