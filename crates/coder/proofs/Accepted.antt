@@ -1,6 +1,6 @@
 -- None of the theorems on refusals is empty: with an open and fit record, bits of the right length and room enough, each call on words is
 -- accepted and does its work; and two places of the code have their third. Assumes nothing.
-use mathlib.Core.Path.{_≡_, ap, ap₂}
+use mathlib.Core.Path.{_≡_, sym, ap, ap₂, _∙_}
 use mathlib.Core.Logic.{_≢_}
 use mathlib.Core.List.{List, _++_}
 use mathlib.Core.Bool.{true, false, not, _||_}
@@ -8,6 +8,7 @@ use Prim.Native.Nat.{ℕ, _≤_}
 use native.Mathlib.Omega.{arith}
 use borrow.Author.Tests.{eq-eqb, ne-eqb, le-ltb}
 use lib.ListN.{length, take, drop}
+use lib.Seq.{take-append-seam, drop-append-seam}
 use Rattle.words.specs.Words.{Word}
 use Rattle.coder.specs.State.{Fit, placesIn, messageIn, syndromeIn, numberIn, isCodewordIn, encodedIn, inverseIn, thirdIn}
 use Rattle.coder.specs.Reasons.{badPlace, badByte, wrongLength, outside}
@@ -75,3 +76,10 @@ unfolding thirdAnswer
 third-accepts rec i j f a b c d h =
     let k = fit-true rec f in
     rw (none-first (thirdReasons rec i j) (k .0, (k .1, (inside rec i a b, (inside rec j c d, (ne-eqb i j h, tt))))))
+
+-- ---- the front and the rest of an output that n bytes are written to
+pub front : (n : ℕ) (new old : List ℕ) → length new ≡ n → (take n (new ++ drop n old) ≡ new) × (drop n (new ++ drop n old) ≡ drop n old)
+front n new old e = (
+  ap (λ (k : ℕ). take k (new ++ drop n old)) (sym e) ∙ take-append-seam new (drop n old),
+  ap (λ (k : ℕ). drop k (new ++ drop n old)) (sym e) ∙ drop-append-seam new (drop n old),
+)

@@ -11,12 +11,11 @@ use lib.Dec.{eqb}
 use lib.ListN.{length}
 use Rattle.group.specs.Sign.{allZero}
 use Rattle.group.proofs.Signs.{allZero-zeros, zeros-allZero}
-use Rattle.layout.specs.Parameters.{moduliFor}
 use Rattle.words.specs.Words.{Word}
 use Rattle.words.specs.Syndrome.{syndrome, lengthOf}
 use Rattle.words.proofs.Reading.{valid-syndrome}
 use Rattle.words.proofs.Theorem.{length-code}
-use Rattle.coder.specs.State.{Fit, placesIn, CodewordIn, isCodewordIn}
+use Rattle.coder.specs.State.{Fit, moduliIn, placesIn, CodewordIn, isCodewordIn}
 use Rattle.coder.specs.Reasons.{badPlace}
 use Rattle.coder.specs.Calls.{wordReasons, codewordAnswer, shown}
 use Rattle.coder.specs.declared.Record.{Record}
@@ -28,7 +27,7 @@ use Rattle.coder.proofs.Accepted.{codeword-accepts, reading-accepts}
 
 module _ (rec : Record) (f : Fit rec) (w : List ℕ) where
   -- n is the length of a word of the code
-  length-in : lengthOf (moduliFor (rec .t) (rec .r)) ≡ placesIn rec
+  length-in : lengthOf (moduliIn rec) ≡ placesIn rec
   unfolding placesIn
   length-in = length-code (rec .t) (rec .r) (f .admitted)
 
@@ -39,7 +38,7 @@ module _ (rec : Record) (f : Fit rec) (w : List ℕ) where
       let h = accepted-none (wordReasons rec w) (word-numbered rec w) (y .0) in
       let l = eqb-true (length w) (placesIn rec) (not-false (eqb (length w) (placesIn rec)) (h .1 .1 .0)) in
       let b = eqb-true (badPlace w) 0 (not-false (eqb (badPlace w) 0) (h .1 .1 .1 .0)) in
-      let ms = moduliFor (rec .t) (rec .r) in
+      let ms = moduliIn rec in
       record {
         isWord = record { places = l ∙ sym length-in; bits = none-bits 0 w b };
         isZero = allZero-zeros ms (syndrome ms w) (valid-syndrome ms w) (y .1);
@@ -50,7 +49,7 @@ module _ (rec : Record) (f : Fit rec) (w : List ℕ) where
 
   pub zero-of : CodewordIn rec w → isCodewordIn rec w ≡ true
   unfolding isCodewordIn
-  zero-of c = ap allZero (c .isZero) ∙ zeros-allZero (moduliFor (rec .t) (rec .r))
+  zero-of c = ap allZero (c .isZero) ∙ zeros-allZero (moduliIn rec)
 
   -- "A codeword is a word of syndrome zero."
   pub says-codeword : (codewordAnswer rec w .yes ≡ true) ↔ CodewordIn rec w

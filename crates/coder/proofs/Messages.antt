@@ -5,21 +5,20 @@ use Prim.Native.Nat.{ℕ, _≤_}
 use native.Mathlib.Omega.{arith}
 use lib.ListN.{length, take, drop}
 use lib.Seq.{take-append-le}
-use Rattle.layout.specs.Parameters.{messageOf, moduliFor}
+use Rattle.layout.specs.Parameters.{messageOf}
 use Rattle.words.specs.Words.{Word}
 use Rattle.words.specs.Claims.{EncodingOf}
 use Rattle.words.proofs.Theorem.{length-message-code, code}
-use Rattle.coder.specs.State.{Fit, placesIn, messageIn, CodewordIn, encodedIn}
+use Rattle.coder.specs.State.{Fit, moduliIn, placesIn, messageIn, CodewordIn, encodedIn}
 use Rattle.coder.specs.Calls.{encodeOutput, shown}
 use Rattle.coder.specs.Claims.{Encodes}
 use Rattle.coder.specs.declared.Record.{Record}
-use Rattle.coder.proofs.Accepted.{encode-accepts, reading-accepts}
-use Rattle.coder.proofs.Triples.{front}
+use Rattle.coder.proofs.Accepted.{front, encode-accepts, reading-accepts}
 use Rattle.coder.proofs.Codewords.{word-of, zero-of}
 
 module _ (rec : Record) (m out : List ℕ) (f : Fit rec) (h : Word (messageIn rec) m) (l : placesIn rec ≤ length out) where
   -- what is written begins with the encoding
-  encoding : EncodingOf (moduliFor (rec .t) (rec .r)) m
+  encoding : EncodingOf (moduliIn rec) m
   unfolding messageIn
   encoding = code (rec .t) (rec .r) (f .admitted) .encodes m h
 

@@ -4,24 +4,15 @@ use mathlib.Core.Logic.{_≢_}
 use mathlib.Core.List.{List, _++_}
 use Prim.Native.Nat.{ℕ, _≤_, _<_}
 use lib.ListN.{length, take, drop}
-use lib.Seq.{take-append-seam, drop-append-seam}
-use Rattle.layout.specs.Parameters.{moduliFor}
 use Rattle.words.specs.Words.{Word, zeroWord}
 use Rattle.words.specs.Claims.{ThirdOf}
 use Rattle.words.proofs.Theorem.{length-code, word-code, code}
-use Rattle.coder.specs.State.{Fit, placesIn, combineIn, inverseIn, thirdIn}
+use Rattle.coder.specs.State.{Fit, moduliIn, placesIn, combineIn, inverseIn, thirdIn}
 use Rattle.coder.specs.Calls.{invertOutput, thirdAnswer}
 use Rattle.coder.specs.Claims.{Inverts, Thirds}
 use Rattle.coder.specs.declared.Record.{Record}
 use Rattle.coder.specs.declared.Answer.{Answer}
-use Rattle.coder.proofs.Accepted.{invert-accepts, third-accepts}
-
--- ---- the front and the rest of an output that n bytes are written to
-pub front : (n : ℕ) (new old : List ℕ) → length new ≡ n → (take n (new ++ drop n old) ≡ new) × (drop n (new ++ drop n old) ≡ drop n old)
-front n new old e = (
-  ap (λ (k : ℕ). take k (new ++ drop n old)) (sym e) ∙ take-append-seam new (drop n old),
-  ap (λ (k : ℕ). drop k (new ++ drop n old)) (sym e) ∙ drop-append-seam new (drop n old),
-)
+use Rattle.coder.proofs.Accepted.{front, invert-accepts, third-accepts}
 
 -- ---- the inverse
 module _ (rec : Record) (w out : List ℕ) (f : Fit rec) (h : Word (placesIn rec) w) (l : placesIn rec ≤ length out) where
@@ -55,7 +46,7 @@ module _ (rec : Record) (i j : ℕ) (f : Fit rec) (a : 0 < i) (b : i ≤ placesI
   told : thirdAnswer rec i j ≡ record { refusal = 0; place = thirdIn rec i j }
   told = third-accepts rec i j f a b c d n
 
-  third : ThirdOf (moduliFor (rec .t) (rec .r)) i j
+  third : ThirdOf (moduliIn rec) i j
   unfolding placesIn
   third = code (rec .t) (rec .r) (f .admitted) .thirds i j a b c d n
 

@@ -5,7 +5,7 @@ use mathlib.Core.Bool.{Bool, _&&_, _||_, not}
 use mathlib.Core.List.{List}
 use Prim.Native.Nat.{ℕ, _+_}
 use lib.Dec.{eqb}
-use Rattle.group.specs.Group.{number}
+use Rattle.group.specs.Group.{Modulus, number}
 use Rattle.layout.specs.Parameters.{Admitted, admits, placesOf, messageOf, moduliFor}
 use Rattle.layout.specs.Layout as layout
 use Rattle.words.specs.Words as words
@@ -38,6 +38,10 @@ pub record Fit (rec : Record) : Type 0 where
   pub admitted : Admitted (rec .t) (rec .r)
   pub sums : rec .words ≡ rec .clean + rec .«corrected_binary» + rec .«corrected_pairs»
 
+-- the moduli of a record's code
+abbrev pub moduliIn : Record → List Modulus
+moduliIn rec = moduliFor (rec .t) (rec .r)
+
 -- n, the places of a message, and the number of the element of a place, for a record that is open and fit
 unfoldable pub placesIn : Record → ℕ
 placesIn rec = placesOf (rec .t)
@@ -46,40 +50,40 @@ unfoldable pub messageIn : Record → ℕ
 messageIn rec = messageOf (rec .t)
 
 unfoldable pub elementIn : Record → ℕ → ℕ
-elementIn rec p = number (moduliFor (rec .t) (rec .r)) (layout.elementAt (moduliFor (rec .t) (rec .r)) p)
+elementIn rec p = number (moduliIn rec) (layout.elementAt (moduliIn rec) p)
 
 -- ---- what is done to words, by the code of a record that is open and fit
 -- "The syndrome of a word is the sum of its binary places times their elements and of each pair's digit times its z": the element
 unfoldable pub syndromeIn : Record → List ℕ → List ℕ
-syndromeIn rec w = syndromes.syndrome (moduliFor (rec .t) (rec .r)) w
+syndromeIn rec w = syndromes.syndrome (moduliIn rec) w
 
 -- "It is told as an element number"
 unfoldable pub numberIn : Record → List ℕ → ℕ
-numberIn rec e = number (moduliFor (rec .t) (rec .r)) e
+numberIn rec e = number (moduliIn rec) e
 
 -- "A codeword is a word of syndrome zero.": as a statement and as a test
 abbrev pub CodewordIn : Record → List ℕ → Type 0
-CodewordIn rec w = syndromes.Codeword (moduliFor (rec .t) (rec .r)) w
+CodewordIn rec w = syndromes.Codeword (moduliIn rec) w
 
 unfoldable pub isCodewordIn : Record → List ℕ → Bool
-isCodewordIn rec w = coding.isCodeword (moduliFor (rec .t) (rec .r)) w
+isCodewordIn rec w = coding.isCodeword (moduliIn rec) w
 
 -- "Encoding: the message, then the check digits that make the syndrome zero."
 unfoldable pub encodedIn : Record → List ℕ → List ℕ
-encodedIn rec m = coding.encode (moduliFor (rec .t) (rec .r)) m
+encodedIn rec m = coding.encode (moduliIn rec) m
 
 -- "The inverse swaps the two places of each pair."
 unfoldable pub inverseIn : Record → List ℕ → List ℕ
-inverseIn rec w = words.inverse (layout.slots (moduliFor (rec .t) (rec .r))) w
+inverseIn rec w = words.inverse (layout.slots (moduliIn rec)) w
 
 -- "Combining adds binary places modulo 2 and pairs modulo 4."
 unfoldable pub combineIn : Record → List ℕ → List ℕ → List ℕ
-combineIn rec x y = words.combine (layout.slots (moduliFor (rec .t) (rec .r))) x y
+combineIn rec x y = words.combine (layout.slots (moduliIn rec)) x y
 
 -- "Third place: for places i and j, the one place that makes a codeword of weight 3 with them."
 unfoldable pub thirdIn : Record → ℕ → ℕ → ℕ
-thirdIn rec i j = coding.third (moduliFor (rec .t) (rec .r)) i j
+thirdIn rec i j = coding.third (moduliIn rec) i j
 
 -- k makes a codeword of weight 3 with i and j
 abbrev pub ThreeIn : Record → ℕ → ℕ → ℕ → Type 0
-ThreeIn rec i j k = claims.ThreeAt (moduliFor (rec .t) (rec .r)) i j k
+ThreeIn rec i j k = claims.ThreeAt (moduliIn rec) i j k

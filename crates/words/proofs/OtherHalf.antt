@@ -5,7 +5,7 @@ use mathlib.Core.List.{List, [], _∷_, _++_, map}
 use Prim.Native.Nat.{ℕ, zero, suc, _+_, _-_, _*_, _/_, _%_, _<_, _≤_}
 use native.Mathlib.Omega.{arith}
 use lib.ListN.{length, getD}
-use Rattle.group.specs.Group.{Modulus, moduliOf, moduli, hd, tl, zeros, negative}
+use Rattle.group.specs.Group.{Modulus, moduliOf, moduli, tl, zeros, negative}
 use Rattle.group.proofs.Laws.{negative-negative, negative-zeros}
 use Rattle.layout.specs.Layout.{Slot, single, pair, singles, pairs, under, units, message, slots, places}
 use Rattle.layout.specs.Claims.{Good}
