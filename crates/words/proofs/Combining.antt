@@ -3,7 +3,7 @@
 -- Assumes nothing.
 use mathlib.Core.Path.{_≡_, refl, sym, ap, ap₂, _∙_}
 use mathlib.Core.List.{List, [], _∷_}
-use Prim.Native.Nat.{ℕ, zero, suc, _+_, _%_, _<_}
+use Prim.Native.Nat.{ℕ, zero, suc, _+_, _%_, _<_, _≤_}
 use native.Mathlib.Nat.{add-comm}
 use native.Mathlib.Omega.{arith}
 use lib.ListN.{length}
@@ -14,7 +14,7 @@ use Rattle.layout.specs.Claims.{Good}
 use Rattle.words.specs.Digits.{gray, digit}
 use Rattle.words.specs.Words.{zeroWord, combine, inverse}
 use Rattle.words.specs.Syndrome.{syndromeOver}
-use Rattle.words.proofs.Reading.{Bit, off, on, Reads, none, bit, bits, valid-over}
+use Rattle.words.proofs.Reading.{Bit, off, on, le-bit, Reads, none, bit, bits, valid-over}
 
 -- ---- digits
 pub digit-lt : (b c : ℕ) → digit b c < 4
@@ -43,11 +43,14 @@ gray-rest (suc zero) w = refl
 gray-rest (suc (suc zero)) w = refl
 gray-rest (suc (suc (suc d))) w = refl
 
+two-reads : {z : List ℕ} {sl : List Slot} {w : List ℕ} (b c : ℕ) → b ≤ 1 → c ≤ 1 → Reads sl w → Reads (pair z ∷ sl) (b ∷ c ∷ w)
+two-reads b c h k r = bits (le-bit b h) (le-bit c k) r
+
 pub gray-reads : {z : List ℕ} {sl : List Slot} {w : List ℕ} (d : ℕ) → Reads sl w → Reads (pair z ∷ sl) (gray d w)
-gray-reads zero r = bits off off r
-gray-reads (suc zero) r = bits off on r
-gray-reads (suc (suc zero)) r = bits on on r
-gray-reads (suc (suc (suc d))) r = bits on off r
+gray-reads zero r = two-reads _ _ (omega arith) (omega arith) r
+gray-reads (suc zero) r = two-reads _ _ (omega arith) (omega arith) r
+gray-reads (suc (suc zero)) r = two-reads _ _ (omega arith) (omega arith) r
+gray-reads (suc (suc (suc d))) r = two-reads _ _ (omega arith) (omega arith) r
 
 -- ---- the group law: a word and its inverse make the zero word
 away-bit : {b : ℕ} → Bit b → (b + b) % 2 ≡ 0
