@@ -2,7 +2,7 @@
 -- accepted and does its work; and two places of the code have their third. Assumes nothing.
 use mathlib.Core.Path.{_≡_, sym, ap, ap₂, _∙_}
 use mathlib.Core.Logic.{_≢_}
-use mathlib.Core.List.{List, _++_}
+use mathlib.Core.List.{List, [], _∷_, _++_}
 use mathlib.Core.Bool.{true, false, not, _||_}
 use Prim.Native.Nat.{ℕ, _≤_}
 use native.Mathlib.Omega.{arith}
@@ -10,13 +10,15 @@ use borrow.Author.Tests.{eq-eqb, ne-eqb, le-ltb}
 use lib.ListN.{length, take, drop}
 use lib.Seq.{take-append-seam, drop-append-seam}
 use Rattle.words.specs.Words.{Word}
-use Rattle.coder.specs.State.{Fit, placesIn, messageIn, syndromeIn, numberIn, isCodewordIn, encodedIn, inverseIn, thirdIn}
-use Rattle.coder.specs.Reasons.{badPlace, badByte, wrongLength, outside}
+use Rattle.coder.specs.State.{Fit, placesIn, messageIn, syndromeIn, numberIn, isCodewordIn, encodedIn}
+use Rattle.coder.specs.State.{correctedIn, correctedPlaceIn, combineIn, inverseIn, thirdIn, fullCount, counted}
+use Rattle.coder.specs.Reasons.{badPlace, badByte, wrongLength, outside, full}
 use Rattle.coder.specs.Calls.{wordReasons, syndromeAnswer, codewordAnswer, shown, writeReasons, encodeReasons, encodeAnswer, encodeOutput}
+use Rattle.coder.specs.Calls.{correctReasons, correctAnswer, correctOutput, combineReasons, combineAnswer, combineOutput}
 use Rattle.coder.specs.Calls.{invertReasons, invertAnswer, invertOutput, thirdReasons, thirdAnswer}
 use Rattle.coder.specs.Claims.{NoneApplies}
 use Rattle.coder.specs.declared.Record.{Record}
-use Rattle.coder.proofs.Firsts.{none-first}
+use Rattle.coder.proofs.Firsts.{none-first, none-append}
 use Rattle.coder.proofs.States.{fit-true}
 use Rattle.coder.proofs.Bytes.{bits-none}
 use Rattle.coder.proofs.Told.{reads}
@@ -33,11 +35,23 @@ word-none rec w f h =
     let k = fit-true rec f in
     (k .0, (k .1, (right-length (placesIn rec) w h, (no-bad (placesIn rec) w h, tt))))
 
-pub write-none : (rec : Record) (n : ℕ) (w out : List ℕ) → Fit rec → Word n w → placesIn rec ≤ length out
-    → NoneApplies (writeReasons rec n w out)
-write-none rec n w out f h l =
+pub write-none : (rec : Record) (n : ℕ) (w : List ℕ) (room : ℕ) → Fit rec → Word n w → placesIn rec ≤ room
+    → NoneApplies (writeReasons rec n w room)
+write-none rec n w room f h l =
     let k = fit-true rec f in
-    (k .0, (k .1, (right-length n w h, (le-ltb (length out) (placesIn rec) l, (no-bad n w h, tt)))))
+    (k .0, (k .1, (right-length n w h, (le-ltb room (placesIn rec) l, (no-bad n w h, tt)))))
+
+pub correct-none : (rec : Record) (w out : List ℕ) → Fit rec → rec .words ≢ fullCount → Word (placesIn rec) w → placesIn rec ≤ length out
+    → NoneApplies (correctReasons rec w out)
+correct-none rec w out f n h l =
+    none-append (writeReasons rec (placesIn rec) w (length out)) (full rec ∷ []) (write-none rec (placesIn rec) w (length out) f h l) (ne-eqb (rec .words) fullCount n, tt)
+
+pub combine-none : (rec : Record) (x y out : List ℕ) → Fit rec → Word (placesIn rec) x → Word (placesIn rec) y → placesIn rec ≤ length out
+    → NoneApplies (combineReasons rec x y out)
+combine-none rec x y out f h i l =
+    let n = placesIn rec in
+    let k = fit-true rec f in
+    (k .0, (k .1, (right-length n x h, (right-length n y i, (le-ltb (length out) n l, (no-bad n x h, (no-bad n y i, tt)))))))
 
 -- ---- the calls
 pub syndrome-accepts : (rec : Record) (w : List ℕ) → Fit rec → Word (placesIn rec) w
@@ -58,13 +72,26 @@ pub encode-accepts : (rec : Record) (m out : List ℕ) → Fit rec → Word (mes
     → (encodeAnswer rec m out ≡ record { refusal = 0; place = 0 }) × (encodeOutput rec m out ≡ encodedIn rec m ++ drop (placesIn rec) out)
 unfolding encodeAnswer encodeOutput
 encode-accepts rec m out f h l =
-    let e = none-first (encodeReasons rec m out) (write-none rec (messageIn rec) m out f h l) in (rw e, rw e)
+    let e = none-first (encodeReasons rec m out) (write-none rec (messageIn rec) m (length out) f h l) in (rw e, rw e)
+
+pub correct-accepts : (rec : Record) (w out : List ℕ) → Fit rec → rec .words ≢ fullCount → Word (placesIn rec) w → placesIn rec ≤ length out
+    → (correctAnswer rec w out ≡ record { refusal = 0; place = correctedPlaceIn rec w; «record» = counted rec (correctedPlaceIn rec w) })
+    × (correctOutput rec w out ≡ correctedIn rec w ++ drop (placesIn rec) out)
+unfolding correctAnswer correctOutput
+correct-accepts rec w out f n h l =
+    let e = none-first (correctReasons rec w out) (correct-none rec w out f n h l) in (rw e, rw e)
+
+pub combine-accepts : (rec : Record) (x y out : List ℕ) → Fit rec → Word (placesIn rec) x → Word (placesIn rec) y → placesIn rec ≤ length out
+    → (combineAnswer rec x y out ≡ record { refusal = 0; place = 0 }) × (combineOutput rec x y out ≡ combineIn rec x y ++ drop (placesIn rec) out)
+unfolding combineAnswer combineOutput
+combine-accepts rec x y out f h i l =
+    let e = none-first (combineReasons rec x y out) (combine-none rec x y out f h i l) in (rw e, rw e)
 
 pub invert-accepts : (rec : Record) (w out : List ℕ) → Fit rec → Word (placesIn rec) w → placesIn rec ≤ length out
     → (invertAnswer rec w out ≡ record { refusal = 0; place = 0 }) × (invertOutput rec w out ≡ inverseIn rec w ++ drop (placesIn rec) out)
 unfolding invertAnswer invertOutput
 invert-accepts rec w out f h l =
-    let e = none-first (invertReasons rec w out) (write-none rec (placesIn rec) w out f h l) in (rw e, rw e)
+    let e = none-first (invertReasons rec w out) (write-none rec (placesIn rec) w (length out) f h l) in (rw e, rw e)
 
 -- ---- the third place
 inside : (rec : Record) (p : ℕ) → 1 ≤ p → p ≤ placesIn rec → outside rec p .applies ≡ false

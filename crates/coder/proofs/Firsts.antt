@@ -5,7 +5,7 @@ use mathlib.Core.List.{List, [], _∷_, _++_}
 use mathlib.Core.Bool.{Bool, true, false, true≢false}
 use Prim.Native.Nat.{ℕ}
 use native.Mathlib.Omega.{arith}
-use Rattle.coder.specs.Claims.{NoneApplies, SomeApplies, Given, Refuses, TellsPlace}
+use Rattle.coder.specs.Claims.{NoneApplies, SomeApplies, Given, Refuses}
 use Rattle.coder.specs.Reasons.{Reason, accepted, firstReason}
 
 pub first-yes : (x : Reason) (xs : List Reason) → x .applies ≡ true → firstReason (x ∷ xs) ≡ x
@@ -20,15 +20,38 @@ pub first-end : firstReason [] ≡ accepted
 unfolding firstReason
 first-end = refl
 
+-- reasons xs before ys: the first of xs, or where none of xs applies that of ys
+pub first-before : (xs ys : List Reason) → firstReason xs .number ≢ 0 → firstReason (xs ++ ys) ≡ firstReason xs
+first-before [] ys h = absurd (h (ap (λ (x : Reason). x .number) first-end))
+first-before (x ∷ xs) ys h = go (first-before xs ys) (x .applies) refl
+  where
+    go : (firstReason xs .number ≢ 0 → firstReason (xs ++ ys) ≡ firstReason xs) → (b : Bool) → x .applies ≡ b
+        → firstReason (x ∷ (xs ++ ys)) ≡ firstReason (x ∷ xs)
+    go f true y = first-yes x (xs ++ ys) y ∙ sym (first-yes x xs y)
+    go f false y =
+        first-no x (xs ++ ys) y ∙ f (λ z. h (ap (λ (x : Reason). x .number) (first-no x xs y) ∙ z)) ∙ sym (first-no x xs y)
+
+pub first-past : (xs ys : List Reason) → NoneApplies xs → firstReason (xs ++ ys) ≡ firstReason ys
+first-past [] ys h = refl
+first-past (x ∷ xs) ys h = first-no x (xs ++ ys) (h .0) ∙ first-past xs ys (h .1)
+
 -- each of the reasons has a number
 abbrev pub Numbered : List Reason → Type 0
 Numbered [] = Unit {0}
 Numbered (x ∷ xs) = (x .number ≢ 0) × Numbered xs
 
+pub numbered-append : (xs ys : List Reason) → Numbered xs → Numbered ys → Numbered (xs ++ ys)
+numbered-append [] ys h k = k
+numbered-append (x ∷ xs) ys h k = (h .0, numbered-append xs ys (h .1) k)
+
 -- a call is accepted exactly where none of its reasons applies
 pub none-first : (rs : List Reason) → NoneApplies rs → firstReason rs ≡ accepted
 none-first [] h = first-end
 none-first (x ∷ xs) h = first-no x xs (h .0) ∙ none-first xs (h .1)
+
+pub none-append : (xs ys : List Reason) → NoneApplies xs → NoneApplies ys → NoneApplies (xs ++ ys)
+none-append [] ys h k = k
+none-append (x ∷ xs) ys h k = (h .0, none-append xs ys (h .1) k)
 
 pub none-accepted : (rs : List Reason) → NoneApplies rs → firstReason rs .number ≡ 0
 none-accepted rs h = ap (λ (x : Reason). x .number) (none-first rs h)
@@ -109,16 +132,17 @@ pub some-refused : (rs : List Reason) → SomeApplies rs → NoneApplies rs → 
 some-refused (x ∷ xs) (inl y) h = true≢false (sym y ∙ h .0)
 some-refused (x ∷ xs) (inr s) h = some-refused xs s (h .1)
 
--- ---- the place that is told, where each reason that applies tells it rightly
-abbrev pub AllTell : List ℕ → List Reason → Type 0
-AllTell w [] = Unit {0}
-AllTell w (x ∷ xs) = (x .applies ≡ true → TellsPlace (x .number) (x .place) w) × AllTell w xs
+-- ---- the place that is told: T says what a number and a place have to do with each other. Each reason has it where it is the first that
+-- applies
+abbrev pub AllTell : (ℕ → ℕ → Type 0) → List Reason → Type 0
+AllTell T [] = T 0 0
+AllTell T (x ∷ xs) = (x .applies ≡ true → T (x .number) (x .place)) × (x .applies ≡ false → AllTell T xs)
 
-pub first-tells : (w : List ℕ) (rs : List Reason) → AllTell w rs → TellsPlace (firstReason rs .number) (firstReason rs .place) w
-first-tells w [] h = rw first-end (record { none = λ n. refl; lowest = λ (e : _≡_ {A = ℕ} 0 4). absurd (omega arith) })
-first-tells w (x ∷ xs) h = go (first-tells w xs (h .1)) (x .applies) refl
+pub first-tells : (T : ℕ → ℕ → Type 0) (rs : List Reason) → AllTell T rs → T (firstReason rs .number) (firstReason rs .place)
+first-tells T [] h = rw first-end h
+first-tells T (x ∷ xs) h = go (λ e. first-tells T xs (h .1 e)) (x .applies) refl
   where
-    go : TellsPlace (firstReason xs .number) (firstReason xs .place) w → (b : Bool) → x .applies ≡ b
-        → TellsPlace (firstReason (x ∷ xs) .number) (firstReason (x ∷ xs) .place) w
+    go : (x .applies ≡ false → T (firstReason xs .number) (firstReason xs .place)) → (b : Bool) → x .applies ≡ b
+        → T (firstReason (x ∷ xs) .number) (firstReason (x ∷ xs) .place)
     go i true y = rw (first-yes x xs y) (h .0 y)
-    go i false y = rw (first-no x xs y) i
+    go i false y = rw (first-no x xs y) (i y)

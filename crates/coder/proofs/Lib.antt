@@ -16,3 +16,6 @@ pub mod Codewords
 pub mod Triples
 pub mod Messages
 pub mod Layouts
+pub mod Counting
+pub mod Moves
+pub mod Demand3

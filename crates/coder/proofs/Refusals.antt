@@ -11,9 +11,10 @@ use lib.ListN.{length}
 use borrow.Author.Tests.{eqb-true, eqb-false, ltb-true, eq-eqb, ne-eqb, lt-ltb, not-true}
 use Rattle.layout.specs.Parameters.{Admitted, admits}
 use Rattle.layout.proofs.Parameters.{admits-admitted, admitted-admits}
-use Rattle.coder.specs.State.{Fit, fresh, isUnfit, placesIn, messageIn, elementIn}
-use Rattle.coder.specs.Reasons.{notAdmitted, wrongLength, shortOutput, badPlace, badByte, outside, equalPlaces, closed, unfit}
+use Rattle.coder.specs.State.{Fit, fresh, isUnfit, placesIn, messageIn, elementIn, fullCount}
+use Rattle.coder.specs.Reasons.{notAdmitted, wrongLength, shortOutput, badPlace, badByte, outside, equalPlaces, closed, unfit, full}
 use Rattle.coder.specs.Calls.{inForce, openReasons, opened, layoutReasons, elementAt, wordReasons, syndromeAnswer, codewordAnswer}
+use Rattle.coder.specs.Calls.{correctReasons, correctAnswer, correctOutput, combineReasons, combineAnswer, combineOutput}
 use Rattle.coder.specs.Calls.{encodeReasons, encodeAnswer, encodeOutput, invertReasons, invertAnswer, invertOutput, thirdReasons, thirdAnswer}
 use Rattle.words.specs.Words.{Bits}
 use Rattle.coder.specs.declared.Record.{Record}
@@ -22,7 +23,7 @@ use Rattle.coder.specs.Claims.{Refuses}
 use Rattle.coder.proofs.Firsts.{by-first}
 use Rattle.coder.proofs.States.{fit-true, true-fit}
 use Rattle.coder.proofs.Bytes.{bits-none, none-bits}
-use Rattle.coder.proofs.Outcomes.{word-numbered, write-numbered, third-numbered, encode-kept, invert-kept}
+use Rattle.coder.proofs.Outcomes.{if-refused, word-numbered, write-numbered, correct-numbered, combine-numbered, third-numbered, encode-kept, combine-kept, invert-kept}
 use Rattle.coder.proofs.Answers.{opened-yes, opened-no, element-inside, element-refusal, outside-yes}
 
 -- ---- "for those reasons only"
@@ -46,12 +47,20 @@ codeword-refuses rec w = by-first (codewordAnswer rec w .refusal) (wordReasons r
 pub encode-refuses : (rec : Record) (m out : List ℕ) → Refuses (encodeAnswer rec m out .refusal) (encodeReasons rec m out)
 unfolding encodeAnswer
 encode-refuses rec m out =
-    by-first (encodeAnswer rec m out .refusal) (encodeReasons rec m out) (write-numbered rec (messageIn rec) m out) refl
+    by-first (encodeAnswer rec m out .refusal) (encodeReasons rec m out) (write-numbered rec (messageIn rec) m (length out)) refl
+
+pub correct-refuses : (rec : Record) (w out : List ℕ) → Refuses (correctAnswer rec w out .refusal) (correctReasons rec w out)
+unfolding correctAnswer
+correct-refuses rec w out = by-first (correctAnswer rec w out .refusal) (correctReasons rec w out) (correct-numbered rec w out) refl
+
+pub combine-refuses : (rec : Record) (x y out : List ℕ) → Refuses (combineAnswer rec x y out .refusal) (combineReasons rec x y out)
+unfolding combineAnswer
+combine-refuses rec x y out = by-first (combineAnswer rec x y out .refusal) (combineReasons rec x y out) (combine-numbered rec x y out) refl
 
 pub invert-refuses : (rec : Record) (w out : List ℕ) → Refuses (invertAnswer rec w out .refusal) (invertReasons rec w out)
 unfolding invertAnswer
 invert-refuses rec w out =
-    by-first (invertAnswer rec w out .refusal) (invertReasons rec w out) (write-numbered rec (placesIn rec) w out) refl
+    by-first (invertAnswer rec w out .refusal) (invertReasons rec w out) (write-numbered rec (placesIn rec) w (length out)) refl
 
 pub third-refuses : (rec : Record) (i j : ℕ) → Refuses (thirdAnswer rec i j .refusal) (thirdReasons rec i j)
 unfolding thirdAnswer
@@ -60,6 +69,15 @@ third-refuses rec i j = by-first (thirdAnswer rec i j .refusal) (thirdReasons re
 -- "every buffer untouched"
 pub encode-untouched : (rec : Record) (m out : List ℕ) → encodeAnswer rec m out .refusal ≢ 0 → encodeOutput rec m out ≡ out
 encode-untouched rec m out h = sym (encode-kept rec m out (encodeAnswer rec m out) refl h)
+
+pub combine-untouched : (rec : Record) (x y out : List ℕ) → combineAnswer rec x y out .refusal ≢ 0 → combineOutput rec x y out ≡ out
+combine-untouched rec x y out h = sym (combine-kept rec x y out (combineAnswer rec x y out) refl h)
+
+-- and "the record as handed in"
+pub correct-untouched : (rec : Record) (w out : List ℕ) → correctAnswer rec w out .refusal ≢ 0
+    → (correctOutput rec w out ≡ out) × (correctAnswer rec w out .«record» ≡ rec)
+unfolding correctAnswer correctOutput
+correct-untouched rec w out h = (if-refused _ _ _ h, if-refused _ _ _ h)
 
 pub invert-untouched : (rec : Record) (w out : List ℕ) → invertAnswer rec w out .refusal ≢ 0 → invertOutput rec w out ≡ out
 invert-untouched rec w out h = sym (invert-kept rec w out (invertAnswer rec w out) refl h)
@@ -113,6 +131,10 @@ length-applies n w = (
 pub output-applies : (n room : ℕ) → (shortOutput n room .applies ≡ true) ↔ (room < n)
 output-applies n room = ((λ e. ltb-true room n e), (λ l. lt-ltb room n l))
 
+-- 23: words is at 4,294,967,295
+pub full-applies : (rec : Record) → (full rec .applies ≡ true) ↔ (rec .words ≡ fullCount)
+full-applies rec = ((λ e. eqb-true (rec .words) fullCount e), (λ e. eq-eqb (rec .words) fullCount e))
+
 -- 4: the bytes are not all bits
 pub byte-applies : (w : List ℕ) → (badByte w .applies ≡ true) ↔ (Bits w → ⊥)
 byte-applies w = (
@@ -149,15 +171,22 @@ opens-not t r h = go (admits t (inForce t r)) refl
 pub fresh-fit : (t r : ℕ) → Admitted t r → Fit (fresh t r)
 fresh-fit t r h = record { admitted = h; sums = refl }
 
-pub opened-fit : (t r : ℕ) → opened t r .refusal ≡ 0 → Fit (opened t r .«record»)
-opened-fit t r h = go (admits t (inForce t r)) refl
+-- an accepted one gives a record of the code asked for, with every count at 0
+opened-admits : (t r : ℕ) → opened t r .refusal ≡ 0 → admits t (inForce t r) ≡ true
+opened-admits t r h = go (admits t (inForce t r)) refl
   where
-    go : (b : Bool) → admits t (inForce t r) ≡ b → Fit (opened t r .«record»)
-    go true y =
-        subst Fit (sym (ap (λ (o : Opened). o .«record») (opened-yes t r y))) (fresh-fit t (inForce t r) (admits-admitted t (inForce t r) y))
+    go : (b : Bool) → admits t (inForce t r) ≡ b → admits t (inForce t r) ≡ true
+    go true y = y
     go false y =
         let z : _≡_ {A = ℕ} 1 0 = sym (ap (λ (o : Opened). o .refusal) (opened-no t r y)) ∙ h in
         absurd (omega arith)
+
+pub opened-fresh : (t r : ℕ) → opened t r .refusal ≡ 0 → opened t r .«record» ≡ fresh t (inForce t r)
+opened-fresh t r h = ap (λ (o : Opened). o .«record») (opened-yes t r (opened-admits t r h))
+
+pub opened-fit : (t r : ℕ) → opened t r .refusal ≡ 0 → Fit (opened t r .«record»)
+opened-fit t r h =
+    subst Fit (sym (opened-fresh t r h)) (fresh-fit t (inForce t r) (admits-admitted t (inForce t r) (opened-admits t r h)))
 
 -- every place of a fit record is told
 pub tells : (rec : Record) (p : ℕ) → Fit rec → 0 < p → p ≤ placesIn rec

@@ -1,7 +1,7 @@
 -- What it is for a record to be open and fit, and how the reasons 21 and 22 come before any other. Assumes nothing.
 use mathlib.Core.Path.{_≡_, refl, sym, ap, _∙_}
 use mathlib.Core.Logic.{_≢_}
-use mathlib.Core.List.{List, [], _∷_, _++_}
+use mathlib.Core.List.{List, _++_}
 use mathlib.Core.Bool.{Bool, true, false, _||_, not, true≢false}
 use Prim.Native.Nat.{ℕ, _+_}
 use native.Mathlib.Omega.{arith}
@@ -10,42 +10,21 @@ use borrow.Author.Tests.{eqb-true, eq-eqb, ne-eqb}
 use Rattle.layout.specs.Parameters.{admits}
 use Rattle.layout.proofs.Parameters.{admits-admitted, admitted-admits}
 use Rattle.coder.specs.State.{Fit, isClosed, isUnfit}
-use Rattle.coder.specs.Reasons.{Reason, firstReason, closed, unfit}
+use Rattle.coder.specs.Reasons.{Reason, firstReason}
 use Rattle.coder.specs.Calls.{stateReasons}
 use Rattle.coder.specs.declared.Record.{Record}
-use Rattle.coder.proofs.Firsts.{first-yes, first-no, first-end}
+use Rattle.coder.proofs.Firsts.{first-before, first-past, accepted-none}
 
 -- ---- the first of 21 and 22, before further reasons
-abbrev at : Reason → ℕ
-at x = x .number
-
 pub state-number : (rec : Record) (rs : List Reason) → firstReason (stateReasons rec) .number ≢ 0
     → firstReason (stateReasons rec ++ rs) ≡ firstReason (stateReasons rec)
-state-number rec rs h = go (isClosed rec) refl (isUnfit rec) refl
-  where
-    u : List Reason
-    u = unfit rec ∷ []
-
-    go : (a : Bool) → isClosed rec ≡ a → (b : Bool) → isUnfit rec ≡ b → firstReason (stateReasons rec ++ rs) ≡ firstReason (stateReasons rec)
-    go true x b y = first-yes (closed rec) (unfit rec ∷ rs) x ∙ sym (first-yes (closed rec) u x)
-    go false x true y =
-        first-no (closed rec) (unfit rec ∷ rs) x ∙ first-yes (unfit rec) rs y
-        ∙ sym (first-no (closed rec) u x ∙ first-yes (unfit rec) [] y)
-    go false x false y = absurd (h (ap at (first-no (closed rec) u x ∙ first-no (unfit rec) [] y ∙ first-end)))
+state-number rec rs h = first-before (stateReasons rec) rs h
 
 pub state-fit : (rec : Record) → firstReason (stateReasons rec) .number ≡ 0 → (isClosed rec ≡ false) × (isUnfit rec ≡ false)
-state-fit rec h = go (isClosed rec) refl (isUnfit rec) refl
-  where
-    u : List Reason
-    u = unfit rec ∷ []
-
-    go : (a : Bool) → isClosed rec ≡ a → (b : Bool) → isUnfit rec ≡ b → (isClosed rec ≡ false) × (isUnfit rec ≡ false)
-    go true x b y = let e : _≡_ {A = ℕ} 21 0 = sym (ap at (first-yes (closed rec) u x)) ∙ h in absurd (omega arith)
-    go false x true y = let e : _≡_ {A = ℕ} 22 0 = sym (ap at (first-no (closed rec) u x ∙ first-yes (unfit rec) [] y)) ∙ h in absurd (omega arith)
-    go false x false y = (x, y)
+state-fit rec h = let n = accepted-none (stateReasons rec) ((λ e. omega arith), ((λ e. omega arith), tt)) h in (n .0, n .1 .0)
 
 pub state-past : (rec : Record) (rs : List Reason) → (isClosed rec ≡ false) × (isUnfit rec ≡ false) → firstReason (stateReasons rec ++ rs) ≡ firstReason rs
-state-past rec rs h = first-no (closed rec) (unfit rec ∷ rs) (h .0) ∙ first-no (unfit rec) rs (h .1)
+state-past rec rs h = first-past (stateReasons rec) rs (h .0, (h .1, tt))
 
 -- ---- what 21 and 22 say
 pub fit-true : (rec : Record) → Fit rec → (isClosed rec ≡ false) × (isUnfit rec ≡ false)

@@ -1,68 +1,124 @@
 -- "place 0 except for 4": what place each call tells, and that reading shows an empty part exactly where it must. Assumes nothing.
-use mathlib.Core.Path.{_≡_, refl, sym, ap, _∙_}
+use mathlib.Core.Path.{_≡_, refl, sym, ap, subst, _∙_}
 use mathlib.Core.Logic.{_⊎_, inl, inr, _≢_, _↔_}
-use mathlib.Core.List.{List, []}
+use mathlib.Core.List.{List, [], _∷_, _++_}
 use mathlib.Core.Bool.{Bool, true, false}
 use Prim.Native.Nat.{ℕ, zero, suc, _^_, _-_, _≤_}
 use native.Mathlib.Nat.{pow-succ'}
 use native.Mathlib.Omega.{arith}
-use borrow.Author.Tests.{eqb-false, not-true}
+use borrow.Author.Tests.{eqb-true, eqb-false, not-true, not-false}
 use lib.Dec.{eqb}
 use lib.ListN.{length, take}
 use lib.Seq.{length-take-le}
 use Rattle.layout.proofs.Parameters.{below-power}
 use Rattle.coder.specs.State.{Fit, placesIn, messageIn, isCodewordIn}
-use Rattle.coder.specs.Reasons.{firstReason, badPlace, badByte}
-use Rattle.coder.specs.Calls.{wordReasons, syndromeAnswer, codewordAnswer, shown, writeReasons, encodeAnswer, invertAnswer, thirdReasons, thirdAnswer}
+use Rattle.coder.specs.Reasons.{Reason, firstReason, badPlace, badByte, full}
+use Rattle.coder.specs.Calls.{wordReasons, syndromeAnswer, codewordAnswer, shown, writeReasons, encodeReasons, encodeAnswer}
+use Rattle.coder.specs.Calls.{correctReasons, correctAnswer, combineReasons, combineAnswer, invertReasons, invertAnswer, thirdReasons, thirdAnswer}
 use Rattle.coder.specs.declared.Record.{Record}
-use Rattle.coder.specs.Claims.{NoneApplies, SomeApplies, TellsPlace}
+use Rattle.coder.specs.Claims.{NoneApplies, SomeApplies, Lowest, TellsPlace, TellsPlaceOfTwo}
 use Rattle.coder.proofs.Firsts.{AllTell, no-place, none-accepted, accepted-none, refused-some, some-refused, first-tells}
-use Rattle.coder.proofs.Bytes.{lowest}
+use Rattle.coder.proofs.Bytes.{none-bits, lowest}
 use Rattle.coder.proofs.Outcomes.{if-refused, word-numbered, word-accepted, shown-refused, shown-other, shown-codeword}
 
 -- ---- the place: a reason other than 4 tells 0, and 4 the lowest place
 other : (n : ℕ) (w : List ℕ) → n ≢ 4 → TellsPlace n 0 w
 other n w h = record { none = λ e. refl; lowest = λ e. absurd (h e) }
 
-bad-tells : (w : List ℕ) → badByte w .applies ≡ true → TellsPlace 4 (badPlace w) w
-bad-tells w e = record {
-  none = λ h. absurd (h refl);
-  lowest = λ z. lowest w (eqb-false (badPlace w) 0 (not-true (eqb (badPlace w) 0) e));
-}
+bad-lowest : (w : List ℕ) → badByte w .applies ≡ true → Lowest w (badPlace w)
+bad-lowest w e = lowest w (eqb-false (badPlace w) 0 (not-true (eqb (badPlace w) 0) e))
 
-word-tells : (rec : Record) (w : List ℕ) → AllTell w (wordReasons rec w)
+bad-tells : (w : List ℕ) → badByte w .applies ≡ true → TellsPlace 4 (badPlace w) w
+bad-tells w e = record { none = λ h. absurd (h refl); lowest = λ z. bad-lowest w e }
+
+abbrev Tells : List ℕ → ℕ → ℕ → Type 0
+Tells w n p = TellsPlace n p w
+
+end-tells : (w : List ℕ) → TellsPlace 0 0 w
+end-tells w = other 0 w (λ e. omega arith)
+
+word-tells : (rec : Record) (w : List ℕ) → AllTell (Tells w) (wordReasons rec w)
 word-tells rec w = (
-  (λ y. other 21 w (λ e. omega arith)),
-  (
-    (λ y. other 22 w (λ e. omega arith)),
-    ((λ y. other 2 w (λ e. omega arith)), (bad-tells w, tt)),
+  (λ e. other 21 w (λ e. omega arith)),
+  λ e. (
+    (λ e. other 22 w (λ e. omega arith)),
+    λ e.
+        ((λ e. other 2 w (λ e. omega arith)), λ e. (bad-tells w, λ e. end-tells w)),
   ),
 )
 
-write-tells : (rec : Record) (n : ℕ) (w out : List ℕ) → AllTell w (writeReasons rec n w out)
-write-tells rec n w out = (
-  (λ y. other 21 w (λ e. omega arith)),
-  (
-    (λ y. other 22 w (λ e. omega arith)),
-    ((λ y. other 2 w (λ e. omega arith)), ((λ y. other 3 w (λ e. omega arith)), (bad-tells w, tt))),
+-- with further reasons rs after 4
+write-tells : (rec : Record) (n : ℕ) (w : List ℕ) (room : ℕ) (rs : List Reason) → AllTell (Tells w) rs
+    → AllTell (Tells w) (writeReasons rec n w room ++ rs)
+write-tells rec n w room rs a = (
+  (λ e. other 21 w (λ e. omega arith)),
+  λ e. (
+    (λ e. other 22 w (λ e. omega arith)),
+    λ e. (
+      (λ e. other 2 w (λ e. omega arith)),
+      λ e.
+          ((λ e. other 3 w (λ e. omega arith)), λ e. (bad-tells w, λ e. a)),
+    ),
   ),
 )
 
 pub syndrome-tells : (rec : Record) (w : List ℕ) → TellsPlace (syndromeAnswer rec w .refusal) (syndromeAnswer rec w .place) w
 unfolding syndromeAnswer
-syndrome-tells rec w = first-tells w (wordReasons rec w) (word-tells rec w)
+syndrome-tells rec w = first-tells (Tells w) (wordReasons rec w) (word-tells rec w)
 
 pub codeword-tells : (rec : Record) (w : List ℕ) → TellsPlace (codewordAnswer rec w .refusal) (codewordAnswer rec w .place) w
 unfolding codewordAnswer
-codeword-tells rec w = first-tells w (wordReasons rec w) (word-tells rec w)
+codeword-tells rec w = first-tells (Tells w) (wordReasons rec w) (word-tells rec w)
 
 pub encode-tells : (rec : Record) (m out : List ℕ) → TellsPlace (encodeAnswer rec m out .refusal) (encodeAnswer rec m out .place) m
 unfolding encodeAnswer
-encode-tells rec m out = first-tells m (writeReasons rec (messageIn rec) m out) (write-tells rec (messageIn rec) m out)
+encode-tells rec m out =
+    first-tells (Tells m) (encodeReasons rec m out) (write-tells rec (messageIn rec) m (length out) [] (end-tells m))
 
 pub invert-tells : (rec : Record) (w out : List ℕ) → TellsPlace (invertAnswer rec w out .refusal) (invertAnswer rec w out .place) w
 unfolding invertAnswer
-invert-tells rec w out = first-tells w (writeReasons rec (placesIn rec) w out) (write-tells rec (placesIn rec) w out)
+invert-tells rec w out =
+    first-tells (Tells w) (invertReasons rec w out) (write-tells rec (placesIn rec) w (length out) [] (end-tells w))
+
+-- the place of a refused correction; that of an accepted one is the place it changes
+pub correct-tells : (rec : Record) (w out : List ℕ) → correctAnswer rec w out .refusal ≢ 0
+    → TellsPlace (correctAnswer rec w out .refusal) (correctAnswer rec w out .place) w
+unfolding correctAnswer
+correct-tells rec w out h =
+    let x = firstReason (correctReasons rec w out) in
+    subst (λ (p : ℕ). TellsPlace (x .number) p w) (sym (if-refused _ _ _ h))
+    (first-tells (Tells w) (correctReasons rec w out) (write-tells rec (placesIn rec) w (length out) (full rec ∷ []) ((λ e. other 23 w (λ e. omega arith)), λ e. end-tells w)))
+
+-- ---- two words
+pub combine-tells : (rec : Record) (x y out : List ℕ) → TellsPlaceOfTwo (combineAnswer rec x y out .refusal) (combineAnswer rec x y out .place) x y
+unfolding combineAnswer
+combine-tells rec x y out =
+    first-tells (λ (n p : ℕ). TellsPlaceOfTwo n p x y) (combineReasons rec x y out) (
+      (λ e. none 21 (λ e. omega arith)),
+      λ e. (
+        (λ e. none 22 (λ e. omega arith)),
+        λ e. (
+          (λ e. none 2 (λ e. omega arith)),
+          λ e. (
+            (λ e. none 2 (λ e. omega arith)),
+            λ e. (
+              (λ e. none 3 (λ e. omega arith)),
+              λ e. (
+                (λ e. record { none = λ h. absurd (h refl); lowest = λ z. inl (bad-lowest x e) }),
+                λ b. (
+                  (λ e. record { none = λ h. absurd (h refl); lowest = λ z. inr (none-bits 0 x (eqb-true (badPlace x) 0 (not-false (eqb (badPlace x) 0) b)), bad-lowest y e) }),
+                  λ e.
+                      none 0 (λ e. omega arith),
+                ),
+              ),
+            ),
+          ),
+        ),
+      ),
+    )
+  where
+    none : (n : ℕ) → n ≢ 4 → TellsPlaceOfTwo n 0 x y
+    none n h = record { none = λ e. refl; lowest = λ e. absurd (h e) }
 
 -- the third place is told only where the call is accepted
 pub third-tells : (rec : Record) (i j : ℕ) → thirdAnswer rec i j .refusal ≢ 0 → thirdAnswer rec i j .place ≡ 0

@@ -4,13 +4,15 @@ use mathlib.Core.List.{List, [], _∷_, _++_}
 use Prim.Native.Nat.{ℕ, zero, suc}
 use lib.ListN.{length, take, drop}
 use Rattle.words.specs.Choice.{pick}
-use Rattle.coder.specs.State.{fresh, isFit, placesIn, messageIn, elementIn, syndromeIn, numberIn, isCodewordIn, encodedIn, inverseIn, thirdIn}
-use Rattle.coder.specs.Reasons.{Reason, firstReason, notAdmitted, wrongLength, shortOutput, badByte, outside, equalPlaces, closed, unfit}
+use Rattle.coder.specs.State.{fresh, isFit, placesIn, messageIn, elementIn, syndromeIn, numberIn, isCodewordIn, encodedIn}
+use Rattle.coder.specs.State.{correctedIn, correctedPlaceIn, combineIn, inverseIn, thirdIn, counted}
+use Rattle.coder.specs.Reasons.{Reason, firstReason, notAdmitted, wrongLength, shortOutput, badByte, outside, equalPlaces, closed, unfit, full}
 use Rattle.coder.specs.declared.Record.{Record}
 use Rattle.coder.specs.declared.Opened.{Opened}
 use Rattle.coder.specs.declared.Answer.{Answer}
 use Rattle.coder.specs.declared.ElementAnswer.{ElementAnswer}
 use Rattle.coder.specs.declared.TestAnswer.{TestAnswer}
+use Rattle.coder.specs.declared.Corrected.{Corrected}
 
 -- what follows from a reason's number: x where the call is accepted, y where it is refused
 abbrev pub ifAccepted : {A : Type 0} → ℕ → A → A → A
@@ -84,16 +86,16 @@ codewordAnswer rec w =
 unfoldable pub shown : Record → List ℕ → List ℕ
 shown rec w = ifAccepted (firstReason (wordReasons rec w) .number) (pick (isCodewordIn rec w) (take (messageIn rec) w) []) []
 
--- ---- an output that is written: n bytes w are asked of the caller, and room for a word
-abbrev pub writeReasons : Record → ℕ → List ℕ → List ℕ → List Reason
-writeReasons rec n w out = stateReasons rec ++ (wrongLength n w ∷ shortOutput (placesIn rec) (length out) ∷ badByte w ∷ [])
+-- ---- an output that is written: n bytes w are asked of the caller, and an output that has room for a word
+abbrev pub writeReasons : Record → ℕ → List ℕ → ℕ → List Reason
+writeReasons rec n w room = stateReasons rec ++ (wrongLength n w ∷ shortOutput (placesIn rec) room ∷ badByte w ∷ [])
 
 -- "A longer one keeps its further bytes"; a refusal leaves "every buffer untouched"
 abbrev pub outputOf : Reason → Record → List ℕ → List ℕ → List ℕ
 outputOf x rec new old = ifAccepted (x .number) (new ++ drop (placesIn rec) old) old
 
 abbrev pub encodeReasons : Record → List ℕ → List ℕ → List Reason
-encodeReasons rec m out = writeReasons rec (messageIn rec) m out
+encodeReasons rec m out = writeReasons rec (messageIn rec) m (length out)
 
 unfoldable pub encodeAnswer : Record → List ℕ → List ℕ → Answer
 encodeAnswer rec m out = answerOf (firstReason (encodeReasons rec m out))
@@ -101,8 +103,43 @@ encodeAnswer rec m out = answerOf (firstReason (encodeReasons rec m out))
 unfoldable pub encodeOutput : Record → List ℕ → List ℕ → List ℕ
 encodeOutput rec m out = outputOf (firstReason (encodeReasons rec m out)) rec (encodedIn rec m) out
 
+-- 23 comes last of all
+abbrev pub correctionReasons : Record → List ℕ → ℕ → List Reason
+correctionReasons rec w room = writeReasons rec (placesIn rec) w room ++ (full rec ∷ [])
+
+abbrev pub correctReasons : Record → List ℕ → List ℕ → List Reason
+correctReasons rec w out = correctionReasons rec w (length out)
+
+-- "An accepted call gives number 0, and place 0 unless it is correction or third place"; a refusal gives "the record as handed in"
+unfoldable pub correctAnswer : Record → List ℕ → List ℕ → Corrected
+correctAnswer rec w out =
+    let x = firstReason (correctReasons rec w out) in
+    record {
+      refusal = x .number;
+      place = ifAccepted (x .number) (correctedPlaceIn rec w) (x .place);
+      «record» = ifAccepted (x .number) (counted rec (correctedPlaceIn rec w)) rec;
+    }
+
+unfoldable pub correctOutput : Record → List ℕ → List ℕ → List ℕ
+correctOutput rec w out = outputOf (firstReason (correctReasons rec w out)) rec (correctedIn rec w) out
+
+-- "Where two words are lent, a fault of the first comes before the same fault of the second." (document 01)
+abbrev pub twoReasons : Record → List ℕ → List ℕ → ℕ → List Reason
+twoReasons rec x y room =
+    let n = placesIn rec in
+    stateReasons rec ++ (wrongLength n x ∷ wrongLength n y ∷ shortOutput n room ∷ badByte x ∷ badByte y ∷ [])
+
+abbrev pub combineReasons : Record → List ℕ → List ℕ → List ℕ → List Reason
+combineReasons rec x y out = twoReasons rec x y (length out)
+
+unfoldable pub combineAnswer : Record → List ℕ → List ℕ → List ℕ → Answer
+combineAnswer rec x y out = answerOf (firstReason (combineReasons rec x y out))
+
+unfoldable pub combineOutput : Record → List ℕ → List ℕ → List ℕ → List ℕ
+combineOutput rec x y out = outputOf (firstReason (combineReasons rec x y out)) rec (combineIn rec x y) out
+
 abbrev pub invertReasons : Record → List ℕ → List ℕ → List Reason
-invertReasons rec w out = writeReasons rec (placesIn rec) w out
+invertReasons rec w out = writeReasons rec (placesIn rec) w (length out)
 
 unfoldable pub invertAnswer : Record → List ℕ → List ℕ → Answer
 invertAnswer rec w out = answerOf (firstReason (invertReasons rec w out))

@@ -6,7 +6,7 @@ use mathlib.Core.List.{List, [], _∷_, _++_}
 use mathlib.Core.Bool.{true, false}
 use Prim.Native.Nat.{ℕ, _-_, _<_, _≤_}
 use lib.ListN.{length, getD, take, drop}
-use Rattle.words.specs.Words.{Word, zeroWord}
+use Rattle.words.specs.Words.{Bits, Word, zeroWord}
 use Rattle.coder.specs.State.{Fit, placesIn, messageIn, CodewordIn, combineIn, ThreeIn}
 use Rattle.coder.specs.Reasons.{Reason}
 use Rattle.coder.specs.Calls.{encodeAnswer, encodeOutput, shown, invertAnswer, invertOutput, thirdAnswer}
@@ -53,6 +53,11 @@ pub record Lowest (w : List ℕ) (p : ℕ) : Type 0 where
 pub record TellsPlace (x p : ℕ) (w : List ℕ) : Type 0 where
   pub none : x ≢ 4 → p ≡ 0
   pub lowest : x ≡ 4 → Lowest w p
+
+-- the same of two words: "the lowest such place is given with it, first word before second", counted within its own word
+pub record TellsPlaceOfTwo (x p : ℕ) (v w : List ℕ) : Type 0 where
+  pub none : x ≢ 4 → p ≡ 0
+  pub lowest : x ≡ 4 → Lowest v p ⊎ (Bits v × Lowest w p)
 
 -- "Each message gives the one codeword that begins with it, reading that codeword shows the message": what encoding wrote into the first n
 -- bytes of an output, and what reading them shows with any open and fit record of the same t and r

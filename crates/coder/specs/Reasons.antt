@@ -7,7 +7,7 @@ use lib.Dec.{eqb, ltb}
 use lib.ListN.{length}
 use Rattle.layout.specs.Parameters.{admits}
 use Rattle.words.specs.Choice.{pick}
-use Rattle.coder.specs.State.{isClosed, isUnfit, placesIn}
+use Rattle.coder.specs.State.{isClosed, isUnfit, placesIn, fullCount}
 use Rattle.coder.specs.declared.Record.{Record}
 
 -- "Each refusal gives its number, place 0 except for 4": a reason's number, the place told with it, and whether it applies
@@ -68,3 +68,7 @@ closed rec = because 21 (isClosed rec)
 -- "22. The record has parameters that are not admitted, r = 0, or words that differ from the sum of the other counts as whole numbers."
 abbrev pub unfit : Record → Reason
 unfit rec = because 22 (isUnfit rec)
+
+-- "23. Words is at 4,294,967,295 (correction only)."
+abbrev pub full : Record → Reason
+full rec = because 23 (eqb (rec .words) fullCount)

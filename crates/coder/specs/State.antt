@@ -7,9 +7,11 @@ use Prim.Native.Nat.{ℕ, _+_}
 use lib.Dec.{eqb}
 use Rattle.group.specs.Group.{Modulus, number}
 use Rattle.layout.specs.Parameters.{Admitted, admits, placesOf, messageOf, moduliFor}
+use Rattle.layout.specs.Gate.{hit}
 use Rattle.layout.specs.Layout as layout
 use Rattle.words.specs.Words as words
 use Rattle.words.specs.Syndrome as syndromes
+use Rattle.words.specs.Halves as halves
 use Rattle.words.specs.Coding as coding
 use Rattle.words.specs.Claims as claims
 use Rattle.coder.specs.declared.Record.{Record}
@@ -72,6 +74,13 @@ isCodewordIn rec w = coding.isCodeword (moduliIn rec) w
 unfoldable pub encodedIn : Record → List ℕ → List ℕ
 encodedIn rec m = coding.encode (moduliIn rec) m
 
+-- "Correction: syndrome zero gives place 0 and the word itself ..; the place given is the one that changes."
+unfoldable pub correctedIn : Record → List ℕ → List ℕ
+correctedIn rec w = coding.corrected (moduliIn rec) w
+
+unfoldable pub correctedPlaceIn : Record → List ℕ → ℕ
+correctedPlaceIn rec w = coding.correctedPlace (moduliIn rec) w
+
 -- "The inverse swaps the two places of each pair."
 unfoldable pub inverseIn : Record → List ℕ → List ℕ
 inverseIn rec w = words.inverse (layout.slots (moduliIn rec)) w
@@ -87,3 +96,27 @@ thirdIn rec i j = coding.third (moduliIn rec) i j
 -- k makes a codeword of weight 3 with i and j
 abbrev pub ThreeIn : Record → ℕ → ℕ → ℕ → Type 0
 ThreeIn rec i j k = claims.ThreeAt (moduliIn rec) i j k
+
+-- ---- the counts
+-- "Counts stop at 4,294,967,295."
+abbrev pub fullCount : ℕ
+fullCount = 4294967295
+
+-- a place of part 1 or 3 of the layout, and one of part 2 or 4
+unfoldable pub isBinaryIn : Record → ℕ → Bool
+isBinaryIn rec p = halves.isBinary (layout.slots (moduliIn rec)) p
+
+unfoldable pub isPairedIn : Record → ℕ → Bool
+isPairedIn rec p = halves.isPaired (layout.slots (moduliIn rec)) p
+
+-- "Each accepted correction adds one to words and to one of the other three": by the place p that it tells
+unfoldable pub counted : Record → ℕ → Record
+counted rec p =
+    record {
+      t = rec .t;
+      r = rec .r;
+      words = rec .words + 1;
+      clean = rec .clean + hit (eqb p 0);
+      «corrected_binary» = rec .«corrected_binary» + hit (isBinaryIn rec p);
+      «corrected_pairs» = rec .«corrected_pairs» + hit (isPairedIn rec p);
+    }

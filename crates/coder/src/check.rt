@@ -7,7 +7,7 @@ ghost use Prim.Native.Nat.{_<_, _≤_};
 ghost use lib.Dec.{eqb, ltb};
 ghost use lib.ListN.{length};
 ghost use Rattle.coder.specs.Reasons.{firstReason, wrongLength, shortOutput, badByte, badPlace};
-ghost use Rattle.coder.specs.Calls.{answerOf, stateReasons, wordReasons, thirdReasons};
+ghost use Rattle.coder.specs.Calls.{answerOf, stateReasons, wordReasons, correctionReasons, twoReasons, thirdReasons};
 use crate::Answer;
 use crate::Record;
 use crate::fit;
@@ -55,6 +55,85 @@ pub(crate) fn word(record: Record, word: &[u8]) -> Answer
 {
     let s = fit::lengths(record);
     output(record, s.places, word, 0, 0)
+}
+
+// The same as for an output, and 23 last of all.
+pub(crate) fn correction(record: Record, word: &[u8], room: usize) -> Answer
+    ensures { λ x. ⌜ x ≡ answerOf (firstReason (correctionReasons «record» (now (word .entry)) room)) ⌝ }
+{
+    let s = fit::lengths(record);
+    let n = s.places;
+    let a = output(record, n, word, n, room);
+    let all = record.words;
+    if a.refusal != 0 {
+        return a;
+    }
+    if all == 4294967295 {
+        return Answer {
+            refusal: 23,
+            place: 0,
+        };
+    }
+    a
+}
+
+// 21, 22, 2, 3 and 4 of two words: a fault of the first before the same fault of the second.
+pub(crate) fn two(record: Record, first: &[u8], second: &[u8], room: usize) -> Answer
+    ensures { λ x. ⌜ x ≡ answerOf (firstReason (twoReasons «record» (now (first .entry)) (now (second .entry)) room)) ⌝ }
+{
+    let x = fit::state(record);
+    if x != 0 {
+        return Answer {
+            refusal: x,
+            place: 0,
+        };
+    }
+    let s = fit::lengths(record);
+    let n = s.places as usize;
+    if first.len() != n {
+        return Answer {
+            refusal: 2,
+            place: 0,
+        };
+    }
+    if second.len() != n {
+        return Answer {
+            refusal: 2,
+            place: 0,
+        };
+    }
+    if room < n {
+        return Answer {
+            refusal: 3,
+            place: 0,
+        };
+    }
+    bytes(first, second)
+}
+
+// 4 of two words, the first before the second.
+fn bytes(first: &[u8], second: &[u8]) -> Answer
+    requires { ⌜ (length (now first) < 4294967296) × (length (now second) < 4294967296) ⌝ }
+    ensures { λ x. ⌜ x ≡ answerOf (firstReason (badByte (now (first .entry)) ∷ badByte (now (second .entry)) ∷ [])) ⌝ }
+{
+    let p = bad_place(first);
+    if p != 0 {
+        return Answer {
+            refusal: 4,
+            place: p,
+        };
+    }
+    let q = bad_place(second);
+    if q != 0 {
+        return Answer {
+            refusal: 4,
+            place: q,
+        };
+    }
+    Answer {
+        refusal: 0,
+        place: 0,
+    }
 }
 
 // 21, 22, 5 and 6 of two places.

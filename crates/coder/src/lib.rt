@@ -3,13 +3,15 @@
 // the theorems on refusals. Whether a record is open and fit is found in fit.rt, what is wrong with
 // a word, an output or a place in check.rt; the work on plain words is done by crate words.
 mod check;
+mod count;
 mod fit;
 
 ghost use mathlib.Core.Path.{_≡_};
 ghost use denote.Ref.{ptr};
 ghost use Rattle.coder.specs.State.{fresh};
 ghost use Rattle.coder.specs.Calls.{inForce, refusedElement, opened, elementAt, wordLength, messageLength, syndromeAnswer, codewordAnswer, shown};
-ghost use Rattle.coder.specs.Calls.{encodeAnswer, encodeOutput, invertAnswer, invertOutput, thirdAnswer};
+ghost use Rattle.coder.specs.Calls.{encodeAnswer, encodeOutput, correctAnswer, correctOutput, invertAnswer, invertOutput, thirdAnswer};
+ghost use Rattle.words.specs.Calls.{faultFor};
 
 // Which code it is, and how many words were corrected. The last two counts are what
 // document 01 calls "mended binary" and "mended in pairs".
@@ -45,6 +47,13 @@ pub struct TestAnswer {
     pub refusal: u32,
     pub place: u32,
     pub yes: bool,
+}
+
+// What correction answers: the place that it changed, 0 for none, and the record with its counts.
+pub struct Corrected {
+    pub refusal: u32,
+    pub place: u32,
+    pub record: Record,
 }
 
 // A record for the code with t and r; r = 0 means r = t. Refused with 1 where t and r are not admitted.
@@ -191,6 +200,39 @@ pub fn encode(record: Record, message: &[u8], out: &mut [u8]) -> Answer
         words::encode(t, r, message, out);
     }
     a
+}
+
+// The codeword that differs from a word in at most one place, at the front of `out`, and that place.
+// Refused with 21, 22, 2, 3, 4 and 23.
+pub fn correct(record: Record, word: &[u8], out: &mut [u8]) -> Corrected
+    ensures answer { λ x. ⌜ x ≡ correctAnswer «record» (now (word .entry)) (now (out .entry)) ⌝ }
+    ensures bytes { λ x. ⌜ now (out .exit) ≡ correctOutput «record» (now (word .entry)) (now (out .entry)) ⌝ }
+{
+    let a = check::correction(record, word, out.len());
+    let refusal = a.refusal;
+    if refusal != 0 {
+        return Corrected {
+            refusal,
+            place: a.place,
+            record,
+        };
+    }
+    let place = fault(record, word);
+    words::flip(word, place, out);
+    Corrected {
+        refusal,
+        place,
+        record: count::counted(record, place),
+    }
+}
+
+// The place at fault in a word of the record's code.
+fn fault(record: Record, word: &[u8]) -> u32
+    ensures { λ x. ⌜ x ≡ faultFor («record» .t) («record» .r) (now (word .entry)) ⌝ }
+{
+    let t = record.t;
+    let r = record.r;
+    words::fault(t, r, word)
 }
 
 // The inverse of a word, at the front of `out`. Refused with 21, 22, 2, 3 and 4.

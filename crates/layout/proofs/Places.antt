@@ -2,13 +2,14 @@
 --   length-places (in Sizes): there are as many places as elements other than zero;
 --   one-place: every element other than zero is the element of exactly one place;
 --   good-slots: a single's element is its own negative, and a pair's are −z and z, where z has the sign 1;
---   place-unique, place-none: the place of an element is that one place, and 0 where there is none.
+--   place-unique, place-none: the place of an element is that one place, and 0 where there is none;
+--   place-most: whatever is looked for, no place beyond the last is found.
 -- Assumes nothing.
 use mathlib.Core.Path.{_≡_, refl, sym, ap, subst, _∙_}
 use mathlib.Core.Logic.{_≢_}
 use mathlib.Core.List.{List, [], _∷_, _++_, map}
 use mathlib.Core.Bool.{Bool, true, false, not, true≢false}
-use Prim.Native.Nat.{ℕ, zero, suc, _+_, _<_}
+use Prim.Native.Nat.{ℕ, zero, suc, _+_, _≤_, _<_}
 use native.Mathlib.Omega.{arith}
 use native.Mathlib.Decide.{decLt}
 use lib.Dec.{eqb, eqb→eq}
@@ -168,6 +169,20 @@ place-none ms e h = go (same e (zeros ms)) refl
     go false t =
         place-never 1 e (places ms (slots ms))
         (not-among ms e (places ms (slots ms)) (valid-places ms) (λ v. true≢false (sym (same-refl (zeros ms)) ∙ ap (λ (r : List ℕ). same r (zeros ms)) (sym (h v)) ∙ t)))
+
+-- whatever is looked for, the place found is not beyond the last
+place-from-lt : (p : ℕ) (e : List ℕ) (xs : List (List ℕ)) → 0 < p → placeFrom p e xs < p + length xs
+unfolding placeFrom
+place-from-lt p e [] h = omega arith
+place-from-lt p e (x ∷ xs) h = go (place-from-lt (suc p) e xs (omega arith)) (same e x) refl
+  where
+    go : placeFrom (suc p) e xs < suc p + length xs → (b : Bool) → same e x ≡ b → placeFrom p e (x ∷ xs) < p + length (x ∷ xs)
+    go i true t = rw (place-here p e x xs t) (omega arith)
+    go i false t = rw (place-later p e x xs t) (omega arith)
+
+pub place-most : (ms : List Modulus) (e : List ℕ) → placeOf ms e ≤ length (places ms (slots ms))
+unfolding placeOf
+place-most ms e = let h = place-from-lt 1 e (places ms (slots ms)) (omega arith) in omega arith
 
 -- the same by the element's number: an element is the element of its own number
 pub numbered : (ms : List Modulus) (e : List ℕ) → same e (element ms (number ms e)) ≡ true → Valid ms e

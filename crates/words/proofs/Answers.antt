@@ -1,15 +1,16 @@
 -- What the calls answer, by their tests: the shape of the parameters, and the lengths. Assumes nothing.
 use mathlib.Core.Path.{_≡_, refl, sym, ap, ap₂, subst, _∙_}
-use mathlib.Core.Bool.{Bool, true, false, and-false}
+use mathlib.Core.Bool.{Bool, true, false, _&&_, and-false}
 use mathlib.Core.List.{List, _++_, append-assoc}
 use Prim.Native.Nat.{ℕ, _+_, _-_, _*_, _^_, _<_, _≤_}
 use native.Mathlib.Omega.{arith}
 use borrow.Author.Tests.{le-leb, lt-leb, eq-eqb, ne-eqb}
+use lib.Dec.{leb}
 use lib.ListN.{length, take, drop, length-append, length-drop}
 use lib.Pow.{pow-mono}
 use lib.Seq.{drop-drop, take-append-seam, drop-append-seam}
 use Rattle.group.specs.Group.{Modulus, moduli, zeros, sum, negative}
-use Rattle.layout.specs.Parameters.{longest, admits, placesOf, messageOf}
+use Rattle.layout.specs.Parameters.{longest, admits, placesOf, messageOf, moduliFor}
 use Rattle.layout.specs.Layout.{units, message, slots, places}
 use Rattle.layout.specs.Gate.{gate}
 use Rattle.layout.specs.Calls.{shapeFor}
@@ -49,31 +50,51 @@ laid t r s n k h =
       enough = omega (arith, z .front);
     }
 
+-- ---- the test of t and r and of a word's length
+module _ (t r : ℕ) (w : List ℕ) (s : Shape) where
+  abbrev isLong : Bool
+  isLong = admits t r && leb (placesOf t) (length w)
+
+  pub long-none : s ≡ shapeFor t r → s .places ≡ 0 → isLong ≡ false
+  long-none e z = rw (not-admitted t r s e z)
+
+  pub long-short : Known t r s → length w < s .places → isLong ≡ false
+  long-short k h =
+      let l : length w < placesOf t = subst (λ (n : ℕ). length w < n) (k .places) h in
+      rw (lt-leb (placesOf t) (length w) l) (and-false (admits t r))
+
+  pub long-whole : Known t r s → s .places ≤ length w → isLong ≡ true
+  long-whole k h =
+      let l : placesOf t ≤ length w = subst (λ (n : ℕ). n ≤ length w) (k .places) h in
+      rw (admitted-admits t r (k .admitted), le-leb (placesOf t) (length w) l)
+
 -- ---- the syndrome
-pub syndrome-none : (t r : ℕ) (w : List ℕ) (s : Shape) → s ≡ shapeFor t r → s .places ≡ 0 → zeros (moduli (s .a) (s .b)) ≡ syndromeFor t r w
-unfolding syndromeFor
-syndrome-none t r w s e z = rw (not-admitted t r s e z) (zeros-for (s .a) (s .b) _ _)
+module _ (t r : ℕ) (w : List ℕ) (s : Shape) where
+  pub syndrome-none : s ≡ shapeFor t r → s .places ≡ 0 → zeros (moduli (s .a) (s .b)) ≡ syndromeFor t r w
+  unfolding syndromeFor
+  syndrome-none e z = rw (long-none t r w s e z) (zeros-for (s .a) (s .b) _ _)
 
-pub syndrome-short : (t r : ℕ) (w : List ℕ) (s : Shape) → Known t r s → length w < s .places → zeros (moduli (s .a) (s .b)) ≡ syndromeFor t r w
-unfolding syndromeFor
-syndrome-short t r w s k h =
-    let l : length w < placesOf t = subst (λ (n : ℕ). length w < n) (k .places) h in
-    rw (lt-leb (placesOf t) (length w) l, and-false) (zeros-for (s .a) (s .b) _ _)
+  pub syndrome-short : Known t r s → length w < s .places → zeros (moduli (s .a) (s .b)) ≡ syndromeFor t r w
+  unfolding syndromeFor
+  syndrome-short k h = rw (long-short t r w s k h) (zeros-for (s .a) (s .b) _ _)
 
-pub syndrome-whole : (t r : ℕ) (w : List ℕ) (s : Shape) → Known t r s → s .places ≤ length w
-    → sum (moduli (s .a) (s .b)) (syndromeOver (moduli (s .a) (s .b)) (message (moduli (s .a) (s .b))) w)
-    (syndromeOver (moduli (s .a) (s .b)) (units (moduli (s .a) (s .b))) (drop (s .message) w))
-    ≡ syndromeFor t r w
-unfolding syndromeFor
-syndrome-whole t r w s k h =
-    let ms = moduli (s .a) (s .b) in
-    let z = sizes-known t r s k in
-    let l : placesOf t ≤ length w = subst (λ (n : ℕ). n ≤ length w) (k .places) h in
-    let n : s .message ≡ length (places ms (message ms)) = sym (length-message ms ∙ z .front) in
-    rw (admitted-admits t r (k .admitted), le-leb (placesOf t) (length w) l)
-    (ap (λ (i : ℕ). sum ms (syndromeOver ms (message ms) w) (syndromeOver ms (units ms) (drop i w))) n
-    ∙ sym (syndrome-split ms w)
-    ∙ ap (λ (x : List Modulus). syndrome x w) (moduli-known t r s k))
+  pub syndrome-long : Known t r s → s .places ≤ length w → syndrome (moduliFor t r) w ≡ syndromeFor t r w
+  unfolding syndromeFor
+  syndrome-long k h = rw (long-whole t r w s k h)
+
+  -- the message's part and the check's
+  pub syndrome-whole : Known t r s → s .places ≤ length w
+      → sum (moduli (s .a) (s .b)) (syndromeOver (moduli (s .a) (s .b)) (message (moduli (s .a) (s .b))) w)
+      (syndromeOver (moduli (s .a) (s .b)) (units (moduli (s .a) (s .b))) (drop (s .message) w))
+      ≡ syndromeFor t r w
+  syndrome-whole k h =
+      let ms = moduli (s .a) (s .b) in
+      let z = sizes-known t r s k in
+      let n : s .message ≡ length (places ms (message ms)) = sym (length-message ms ∙ z .front) in
+      ap (λ (i : ℕ). sum ms (syndromeOver ms (message ms) w) (syndromeOver ms (units ms) (drop i w))) n
+      ∙ sym (syndrome-split ms w)
+      ∙ ap (λ (x : List Modulus). syndrome x w) (moduli-known t r s k)
+      ∙ syndrome-long k h
 
 -- ---- encoding
 module _ (t r : ℕ) (m old : List ℕ) (s : Shape) where

@@ -12,10 +12,11 @@ use Rattle.words.specs.Words.{Word, flipAt, flip, combine}
 use Rattle.words.specs.Syndrome.{syndrome, Codeword, lengthOf}
 use Rattle.words.specs.Halves.{otherAt, movedAt, moved}
 use Rattle.words.specs.Claims.{CarriedBy}
+use Rattle.words.specs.Calls.{fault}
 use Rattle.words.proofs.Reading.{Bit, off, on, Reads, none, bit, bits, word-reads}
 use Rattle.words.proofs.Combining.{combine-reads, syndrome-combine}
 use Rattle.words.proofs.Flips.{moved-alone, moved-single, moved-pair, moved-lt}
-use Rattle.words.proofs.Perfect.{fault, flip-place-reads, length-word, fault-within, fault-zero, fault-only}
+use Rattle.words.proofs.Perfect.{flip-place-reads, length-word, fault-within, fault-zero, fault-only}
 use Rattle.words.proofs.Rule.{corrected-flip, corrected-place}
 
 -- ---- a flipped place of a combination

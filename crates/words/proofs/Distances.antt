@@ -14,8 +14,9 @@ use Rattle.words.specs.Words.{Bits, Word, distance, flipAt, flip}
 use Rattle.words.specs.Syndrome.{syndrome, Codeword, lengthOf}
 use Rattle.words.specs.Coding.{corrected}
 use Rattle.words.specs.Claims.{PerfectAt}
+use Rattle.words.specs.Calls.{fault}
 use Rattle.words.proofs.Reading.{Reads, word-reads, reads-word}
-use Rattle.words.proofs.Perfect.{fault, flip-place-reads, fault-within, fault-zero, fault-only}
+use Rattle.words.proofs.Perfect.{flip-place-reads, fault-within, fault-zero, fault-only}
 use Rattle.words.proofs.Rule.{corrected-flip, corrected-place}
 
 -- ---- distances

@@ -7,7 +7,7 @@ use mathlib.Core.List.{List, [], _∷_}
 use Prim.Native.Nat.{ℕ, zero, suc, _-_, _<_}
 use native.Mathlib.Omega.{arith}
 use lib.Dec.{eqb}
-use lib.ListN.{length, getD}
+use lib.ListN.{length, getD, set}
 use Rattle.group.specs.Group.{Modulus, zeros, sum, negative, times}
 use Rattle.group.proofs.Laws.{valid-negative, valid-times, sum-comm, sum-assoc, sum-zero, zero-sum, sum-negative, times-zero, times-suc, times-three, times-four}
 use Rattle.layout.specs.Layout.{Slot, single, pair, places}
@@ -126,6 +126,13 @@ unfolding flipAt
 length-flipAt [] i = refl
 length-flipAt (b ∷ w) zero = refl
 length-flipAt (b ∷ w) (suc i) = ap suc (length-flipAt w i)
+
+-- one byte is set anew, and none where the index is beyond the word
+pub flip-set : (w : List ℕ) (i : ℕ) → set w i (1 - getD w i 0) ≡ flipAt i w
+unfolding flipAt
+flip-set [] i = refl
+flip-set (b ∷ w) zero = refl
+flip-set (b ∷ w) (suc i) = ap {B = List ℕ} (λ (t : List ℕ). b ∷ t) (flip-set w i)
 
 pub flipped-here : (w : List ℕ) (i : ℕ) → i < length w → getD (flipAt i w) i 0 ≡ 1 - getD w i 0
 unfolding flipAt

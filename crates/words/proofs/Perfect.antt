@@ -11,19 +11,16 @@ use Rattle.group.specs.Group.{Modulus, zeros, sum, negative, size}
 use Rattle.group.specs.Sign.{same}
 use Rattle.group.proofs.Laws.{valid-negative, sum-negative, negative-unique, negative-zeros}
 use Rattle.group.proofs.Signs.{same-refl, same-eq}
-use Rattle.layout.specs.Layout.{slots, elementAt, placeOf}
+use Rattle.layout.specs.Layout.{slots, elementAt}
 use Rattle.layout.proofs.Cover.{negative-nonzero}
 use Rattle.layout.proofs.Sizes.{length-places}
 use Rattle.layout.proofs.Places.{good-slots, valid-at-place, place-nonzero, place-unique, place-none, one-place}
 use Rattle.words.specs.Words.{flipAt, flip}
 use Rattle.words.specs.Syndrome.{syndrome, lengthOf}
 use Rattle.words.specs.Halves.{movedAt, moved}
+use Rattle.words.specs.Calls.{fault}
 use Rattle.words.proofs.Reading.{Reads, reads-length, valid-syndrome}
 use Rattle.words.proofs.Flips.{moved-lt, moved-moved, syndrome-flip, flip-reads}
-
--- the place to flip, or 0
-abbrev pub fault : List Modulus → List ℕ → ℕ
-fault ms w = moved (slots ms) w (placeOf ms (negative ms (syndrome ms w)))
 
 pub zero? : (ms : List Modulus) (s : List ℕ) → Dec (s ≡ zeros ms)
 zero? ms s = go (same s (zeros ms)) refl

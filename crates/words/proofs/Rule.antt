@@ -20,9 +20,10 @@ use Rattle.words.specs.Words.{flipAt, flip}
 use Rattle.words.specs.Syndrome.{syndrome}
 use Rattle.words.specs.Halves.{otherAt, movedAt}
 use Rattle.words.specs.Coding.{isCodeword, correctOver, corrected, changedFrom, correctedPlace}
+use Rattle.words.specs.Calls.{fault}
 use Rattle.words.proofs.Reading.{Bit, off, on, Reads, none, bit, bits, reads-length, valid-syndrome}
 use Rattle.words.proofs.Flips.{moved-alone, moved-single, moved-pair}
-use Rattle.words.proofs.Perfect.{fault, length-word, fault-none, fault-there, fault-within}
+use Rattle.words.proofs.Perfect.{length-word, fault-none, fault-there, fault-within}
 
 -- ---- a digit less 1 flips the first place of its pair, less 3 the second, or the other way round where the two places differ
 less-one : (z : List ℕ) (sl : List Slot) (w : List ℕ) {b c : ℕ} → Bit b → Bit c

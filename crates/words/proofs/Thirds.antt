@@ -18,10 +18,11 @@ use Rattle.words.specs.Words.{Bits, zeroWord, weight, flipAt, flip}
 use Rattle.words.specs.Syndrome.{syndromeOver, syndrome, lengthOf}
 use Rattle.words.specs.Coding.{isCodeword, makesThree, third}
 use Rattle.words.specs.Claims.{ThreeAt, ThirdOf}
+use Rattle.words.specs.Calls.{fault}
 use Rattle.words.proofs.Reading.{Reads, word-reads, reads-word, valid-syndrome}
 use Rattle.words.proofs.Combining.{syndrome-zero}
 use Rattle.words.proofs.Flips.{flip-reads, flip-twice, flip-comm, length-flipAt, flipped-there, weight-flipAt}
-use Rattle.words.proofs.Perfect.{fault, fault-within, fault-zero, fault-only}
+use Rattle.words.proofs.Perfect.{fault-within, fault-zero, fault-only}
 
 -- ---- the least number that passes, where only one does
 pub least-only : (test : ℕ → Bool) (p k q : ℕ) → p ≤ q → q < p + k → test q ≡ true

@@ -5,10 +5,9 @@ use mathlib.Core.Bool.{Bool, true, false, _&&_, _||_, not, and-false, true≢fal
 use mathlib.Core.List.{List}
 use Prim.Native.Nat.{ℕ, zero, suc, _-_, _<_, _≤_}
 use native.Mathlib.Omega.{arith}
-use borrow.Author.Tests.{leb-true, le-leb, eqb-true, eqb-false, eq-eqb, ne-eqb}
+use borrow.Author.Tests.{le-leb, eqb-true, eqb-false, eq-eqb, ne-eqb}
 use lib.Dec.{leb, eqb}
 use Rattle.group.specs.Group.{sum, negative}
-use Rattle.group.proofs.Signs.{both}
 use Rattle.layout.specs.Parameters.{admits, placesOf, moduliFor}
 use Rattle.layout.specs.Layout.{slots, placeOf}
 use Rattle.layout.specs.Calls.{shapeFor, elementFor, placeFor}
@@ -21,6 +20,7 @@ use Rattle.words.specs.Coding.{third}
 use Rattle.words.specs.Calls.{isPlace, thirdFor, TwoPlaces}
 use Rattle.words.proofs.TwoOnes.{two-halves, two-apart, third-apart, third-meets}
 use Rattle.words.proofs.Theorem.{length-code}
+use Rattle.words.proofs.Shapes.{place-there}
 
 -- the syndrome of ones at i and j
 abbrev pub twoSyndrome : ℕ → ℕ → ℕ → ℕ → List ℕ
@@ -102,15 +102,17 @@ told-other t r (suc i) (suc j) h m =
 module _ (t r i j : ℕ) (s : Shape) (e : s ≡ shapeFor t r) where
   pub two-places : (leb 1 i && leb i (s .places)) ≡ true → (leb 1 j && leb j (s .places)) ≡ true → i ≢ j → TwoPlaces t r i j
   two-places p q n =
-      let a = both (leb 1 i) (leb i (s .places)) p in
-      let b = both (leb 1 j) (leb j (s .places)) q in
-      let i₁ = leb-true 1 i (a .0) in
-      let i₂ = leb-true i (s .places) (a .1) in
-      let j₁ = leb-true 1 j (b .0) in
-      let j₂ = leb-true j (s .places) (b .1) in
-      let k = known t r s e (omega arith) in
-      let l = k .places in
-      record { admitted = k .admitted; first = omega arith; firstMost = omega arith; second = omega arith; secondMost = omega arith; apart = n }
+      let a = place-there (s .places) i p in
+      let b = place-there (s .places) j q in
+      let k = known t r s e (omega (arith, a .0, a .1)) in
+      record {
+        admitted = k .admitted;
+        first = a .0;
+        firstMost = omega (arith, a .1, k .places);
+        second = b .0;
+        secondMost = omega (arith, b .1, k .places);
+        apart = n;
+      }
 
   pub third-two : TwoPlaces t r i j → thirdFor t r i j ≡ third (moduliFor t r) i j
   unfolding thirdFor

@@ -19,9 +19,10 @@ use Rattle.words.specs.Words.{zeroWord, flipAt, flip}
 use Rattle.words.specs.Syndrome.{syndrome, lengthOf}
 use Rattle.words.specs.Halves.{otherAt, movedAt}
 use Rattle.words.specs.Coding.{third}
+use Rattle.words.specs.Calls.{fault}
 use Rattle.words.proofs.Reading.{Reads, valid-syndrome}
 use Rattle.words.proofs.Flips.{flip-reads, flipped-here, flipped-there}
-use Rattle.words.proofs.Perfect.{fault, length-word, gains, fault-there}
+use Rattle.words.proofs.Perfect.{length-word, gains, fault-there}
 use Rattle.words.proofs.OtherHalf.{other-negative}
 use Rattle.words.proofs.Thirds.{zero-at, zero-syndrome, zero-word, twoOnes, two-reads, two-not, third-first, third-second, third-fault}
 

@@ -6,12 +6,13 @@ use mathlib.Core.List.{List, _++_}
 use Prim.Native.Nat.{ℕ, _<_, _≤_}
 use lib.Dec.{eqb, leb}
 use lib.ListN.{length, drop}
-use Rattle.group.specs.Group.{zeros}
+use Rattle.group.specs.Group.{Modulus, zeros, negative}
 use Rattle.layout.specs.Parameters.{Admitted, admits, placesOf, messageOf, moduliFor}
-use Rattle.layout.specs.Layout.{slots}
+use Rattle.layout.specs.Layout.{slots, placeOf}
 use Rattle.words.specs.Choice.{pick}
-use Rattle.words.specs.Words.{inverse}
+use Rattle.words.specs.Words.{flip, combine, inverse}
 use Rattle.words.specs.Syndrome.{syndrome}
+use Rattle.words.specs.Halves.{width, moved}
 use Rattle.words.specs.Coding.{encode, third}
 
 -- the syndrome of the first n bytes, or zero
@@ -29,6 +30,30 @@ encodeFor t r m old =
 unfoldable pub invertFor : ℕ → ℕ → List ℕ → List ℕ → List ℕ
 invertFor t r w old =
     written (admits t r && (leb (placesOf t) (length w) && leb (placesOf t) (length old))) (placesOf t) (inverse (slots (moduliFor t r)) w) old
+
+-- the place at fault: that of minus the syndrome, moved to the other half of its pair where the word differs on the two; 0 where the syndrome
+-- is zero. For a word of bits it is the place that correction changes (`corrected-place` in proofs/Rule).
+abbrev pub fault : List Modulus → List ℕ → ℕ
+fault ms w = moved (slots ms) w (placeOf ms (negative ms (syndrome ms w)))
+
+unfoldable pub faultFor : ℕ → ℕ → List ℕ → ℕ
+faultFor t r w = pick (admits t r && leb (placesOf t) (length w)) (fault (moduliFor t r) w) 0
+
+-- a word with one place flipped, written over the front of an output that has room for it
+unfoldable pub flipFor : List ℕ → ℕ → List ℕ → List ℕ
+flipFor w p old = written (leb (length w) (length old)) (length w) (flip p w) old
+
+-- 1 for a binary place, 2 for a place of a pair, or 0
+unfoldable pub widthFor : ℕ → ℕ → ℕ → ℕ
+widthFor t r p = pick (admits t r) (width (slots (moduliFor t r)) p) 0
+
+unfoldable pub combineFor : ℕ → ℕ → List ℕ → List ℕ → List ℕ → List ℕ
+combineFor t r x y old =
+    written
+    (admits t r && (leb (placesOf t) (length x) && (leb (placesOf t) (length y) && leb (placesOf t) (length old))))
+    (placesOf t)
+    (combine (slots (moduliFor t r)) x y)
+    old
 
 -- whether p is a place of the code
 abbrev pub isPlace : ℕ → ℕ → Bool

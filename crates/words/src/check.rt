@@ -35,7 +35,7 @@ pub(crate) fn read(a: usize, b: usize, word: &[u8], start: usize) -> Element
 }
 
 // The first and the second place of a digit.
-fn first_half(d: u8) -> u8
+pub(crate) fn first_half(d: u8) -> u8
     ensures { λ r. ⌜ r ≡ hd (gray d []) ⌝ }
 {
     if d < 2 {
@@ -44,7 +44,7 @@ fn first_half(d: u8) -> u8
     1
 }
 
-fn second_half(d: u8) -> u8
+pub(crate) fn second_half(d: u8) -> u8
     ensures { λ r. ⌜ r ≡ hd (tl (gray d [])) ⌝ }
 {
     if d == 1 {

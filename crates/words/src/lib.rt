@@ -4,10 +4,11 @@
 mod check;
 mod halves;
 mod ones;
+mod place;
 mod walk;
 
 ghost use mathlib.Core.Path.{_≡_};
-ghost use Rattle.words.specs.Calls.{syndromeFor, encodeFor, invertFor, thirdFor};
+ghost use Rattle.words.specs.Calls.{syndromeFor, faultFor, flipFor, widthFor, encodeFor, invertFor, thirdFor};
 use group::Element;
 
 // The syndrome of the first n bytes of a word; zero where t and r are not admitted or the word is
@@ -57,6 +58,47 @@ pub fn encode(t: u32, r: u32, message: &[u8], out: &mut [u8])
     let y = group::neg(a, b, x);
     check::copy(message, out);
     check::write(a, b, y, out, front);
+}
+
+// The place at fault, told from the syndrome: for a word of bits, the one that correction changes; 0
+// for a codeword, and where t and r are not admitted or the word is shorter.
+pub fn fault(t: u32, r: u32, word: &[u8]) -> u32
+    ensures { λ x. ⌜ x ≡ faultFor t r (now (word .entry)) ⌝ }
+{
+    let s = layout::shape_of(t, r);
+    let n = s.places as usize;
+    if n == 0 {
+        return 0;
+    }
+    if word.len() < n {
+        return 0;
+    }
+    let e = syndrome(t, r, word);
+    place::fault_of(t, r, s, e, word)
+}
+
+// A word with one place flipped, none for place 0, written over the front of an output that has room
+// for it.
+pub fn flip(word: &[u8], place: u32, out: &mut [u8])
+    ensures { λ x. ⌜ now (out .exit) ≡ flipFor (now (word .entry)) place (now (out .entry)) ⌝ }
+{
+    if out.len() < word.len() {
+        return;
+    }
+    check::copy(word, out);
+    place::flip_at(word, place, out);
+}
+
+// 1 for a binary place, 2 for a place of a pair; 0 where there is no such place.
+pub fn width(t: u32, r: u32, place: u32) -> u32
+    ensures { λ x. ⌜ x ≡ widthFor t r place ⌝ }
+{
+    let s = layout::shape_of(t, r);
+    let n = s.places;
+    if ones::is_place(n, place) {
+        return place::width_of(s, (place - 1) as usize);
+    }
+    0
 }
 
 // The inverse of a word, its first n bytes, written to the first n bytes of `out`.

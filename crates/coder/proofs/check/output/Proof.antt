@@ -4,13 +4,11 @@ use borrow.Author.Tests.{eq-eqb, ne-eqb, lt-ltb, le-ltb}
 use mathlib.Core.Path.{_≡_, sym, ap, _∙_}
 use mathlib.Core.Bool.{not}
 use mathlib.Core.List.{List, [], _∷_, _++_}
-use Prim.Native.Nat.{ℕ}
-use Rattle.coder.specs.Reasons.{Reason, firstReason, wrongLength, shortOutput, badByte, badPlace}
+use Rattle.coder.specs.Reasons.{Reason, firstReason, wrongLength, shortOutput, badByte}
 use Rattle.coder.specs.Calls.{stateReasons, answerOf}
-use Rattle.coder.specs.declared.Answer.{Answer}
 use Rattle.coder.proofs.Firsts.{first-yes, first-no, first-end}
 use Rattle.coder.proofs.States.{state-fit, state-past}
-use Rattle.coder.proofs.Outcomes.{state-answer}
+use Rattle.coder.proofs.Outcomes.{state-answer, byte-bad, byte-good}
 use Rattle.coder.proofs.check.output.Statement.{statement}
 use Rattle.coder.proofs.check.output.Tie as tie
 
@@ -50,30 +48,25 @@ returns-3 c =
 bad-place-requires : tie.Need-bad-place-requires
 bad-place-requires c κs = search needs
 
+-- and past the third there is room
+past-room : (c : tie.Else3) (rs : List Reason)
+    → let g = c .before .before .before .before .before .args in
+    firstReason (stateReasons (g .«record») ++ (wrongLength (g .n) (g .word .now) ∷ shortOutput (g .need) (g .room) ∷ rs)) ≡ firstReason rs
+past-room c rs =
+    let g = c .before .before .before .before .before .args in
+    past-length (c .before) _ ∙ first-no (shortOutput (g .need) (g .room)) rs (le-ltb _ _ (c .if3 .left))
+
 returns-4 : tie.Need-returns-4
 returns-4 c =
     let q = c .before .before in
-    let g = q .before .before .before .before .before .args in
-    let w = g .word .now in
-    sym
-    (ap answerOf
-    (past-length (q .before) _
-    ∙ first-no (shortOutput (g .need) (g .room)) _ (le-ltb _ _ (q .if3 .left))
-    ∙ first-no (badByte w) [] (ap not (eq-eqb (badPlace w) 0 (sym (c .before .bad-place .ensures) ∙ c .if4 .taken)))
-    ∙ first-end))
+    let w = q .before .before .before .before .before .args .word .now in
+    sym (ap answerOf (past-room q _ ∙ first-no (badByte w) [] (byte-good w _ (c .before .bad-place .ensures) (c .if4 .taken)) ∙ first-end))
 
 returns-5 : tie.Need-returns-5
 returns-5 c =
     let q = c .before .before in
-    let g = q .before .before .before .before .before .args in
-    let w = g .word .now in
-    let e = c .before .bad-place .ensures in
-    ap {B = Answer} (λ (p : ℕ). record { refusal = 4; place = p }) e
-    ∙ sym
-    (ap answerOf
-    (past-length (q .before) _
-    ∙ first-no (shortOutput (g .need) (g .room)) _ (le-ltb _ _ (q .if3 .left))
-    ∙ first-yes (badByte w) [] (ap not (ne-eqb (badPlace w) 0 (λ z. c .if4 .left (e ∙ z))))))
+    let w = q .before .before .before .before .before .args .word .now in
+    byte-bad w _ (c .before .bad-place .ensures) (c .if4 .left) [] ∙ sym (ap answerOf (past-room q _))
 
 pub output-spec : {M : Type 1} → statement M
 output-spec =

@@ -11,8 +11,8 @@ use Rattle.layout.specs.declared.Shape.{Shape}
 use Rattle.words.specs.Words.{inverse}
 use Rattle.words.specs.Halves.{otherAt}
 use Rattle.words.proofs.Writing.{Written, write-none, write-step, write-end}
-use Rattle.words.proofs.OtherHalf.{other-lt, inverse-at, length-inverse}
-use Rattle.words.proofs.Shapes.{OfCode, length-slots}
+use Rattle.words.proofs.OtherHalf.{inverse-at, length-inverse}
+use Rattle.words.proofs.Shapes.{OfCode, length-slots, other-within}
 use Rattle.words.proofs.halves.swap.Statement.{statement}
 use Rattle.words.proofs.halves.swap.Tie as tie
 
@@ -32,7 +32,7 @@ module _ (s : Shape) (o : OfCode s) (p : 0 < s .places) (w : List ℕ) where
     within = omega (arith, length-slots s o p)
 
     index-lt : j < s .places
-    index-lt = omega (arith, other-lt (moduli (s .a) (s .b)) (slots (moduli (s .a) (s .b))) i within, length-slots s o p)
+    index-lt = omega (arith, other-within s o p i h)
 
     byte-at : getD w j 0 ≡ getD (inverse (slots (moduli (s .a) (s .b))) w) i 0
     byte-at = ap (λ (k : ℕ). getD w k 0) e ∙ sym (inverse-at (moduli (s .a) (s .b)) (slots (moduli (s .a) (s .b))) w i within)

@@ -1,0 +1,81 @@
+-- Demand 2: "the counts in a record that is handed on unaltered from call to call equal what the accepted corrections since its opening came
+-- to". A run of calls, what its corrections came to, and the counts. The theorem is `counts` (proofs/Counting). Assumes nothing.
+use mathlib.Core.Path.{_≡_}
+use mathlib.Core.Logic.{_≢_, _↔_, _⊎_}
+use mathlib.Core.Bool.{Bool, true, _&&_}
+use mathlib.Core.List.{List, [], _∷_}
+use Prim.Native.Nat.{ℕ, _+_, _≤_}
+use lib.Dec.{eqb}
+use Rattle.layout.specs.Gate.{hit}
+use Rattle.layout.specs.Parameters.{placesOf, moduliFor}
+use Rattle.layout.specs.Layout.{slots}
+use Rattle.words.specs.Words.{Word, flip}
+use Rattle.words.specs.Syndrome.{Codeword}
+use Rattle.words.specs.Halves.{isBinary, isPaired}
+use Rattle.coder.specs.State.{fullCount}
+use Rattle.coder.specs.Calls.{correctAnswer}
+use Rattle.coder.specs.declared.Record.{Record}
+
+-- the public calls, with any arguments beside the record; an output is given by what it holds before the call
+pub data Other : Type 0 where
+  opening thirdPlace : ℕ → ℕ → Other
+  layoutAt : ℕ → Other
+  lengthOfWord lengthOfMessage : Other
+  syndromeOf testing reading : List ℕ → Other
+  encoding inverting : List ℕ → List ℕ → Other
+  combining : List ℕ → List ℕ → List ℕ → Other
+
+pub data Call : Type 0 where
+  correcting : List ℕ → List ℕ → Call
+  other : Other → Call
+
+-- "Other calls leave the record alone.": they return none (another opening returns another record)
+abbrev pub after : Record → Call → Record
+after rec (correcting w out) = correctAnswer rec w out .«record»
+after rec (other x) = rec
+
+-- the record handed on from call to call
+unfoldable pub run : Record → List Call → Record
+run rec [] = rec
+run rec (x ∷ xs) = run (after rec x) xs
+
+-- what a correction came to: the word that it read, and the number and the place that it answered
+pub record Outcome : Type 0 where
+  pub word : List ℕ
+  pub refusal : ℕ
+  pub place : ℕ
+
+abbrev pub outcome : Record → List ℕ → List ℕ → Outcome
+outcome rec w out = record { word = w; refusal = correctAnswer rec w out .refusal; place = correctAnswer rec w out .place }
+
+unfoldable pub outcomes : Record → List Call → List Outcome
+outcomes rec [] = []
+outcomes rec (correcting w out ∷ xs) = outcome rec w out ∷ outcomes (after rec (correcting w out)) xs
+outcomes rec (other x ∷ xs) = outcomes rec xs
+
+-- how many corrections were accepted and told a place of the kind
+unfoldable pub accepted : (ℕ → Bool) → List Outcome → ℕ
+accepted kind [] = 0
+accepted kind (x ∷ xs) = hit (eqb (x .refusal) 0 && kind (x .place)) + accepted kind xs
+
+-- the counts of a record are those of the corrections that were accepted: all; those of place 0; of a binary place; of a place of a pair
+pub record Counts (t r : ℕ) (rec : Record) (xs : List Outcome) : Type 0 where
+  pub sameT : rec .t ≡ t
+  pub sameR : rec .r ≡ r
+  pub words : rec .words ≡ accepted (λ p. true) xs
+  pub clean : rec .clean ≡ accepted (λ p. eqb p 0) xs
+  pub binary : rec .«corrected_binary» ≡ accepted (isBinary (slots (moduliFor t r))) xs
+  pub pairs : rec .«corrected_pairs» ≡ accepted (isPaired (slots (moduliFor t r))) xs
+  pub most : rec .words ≤ fullCount
+
+-- what an accepted correction's place says of the word: place 0 that it was a codeword, a binary place or one of a pair that it is a codeword
+-- with this place flipped; and there is no other kind
+pub record Meant (t r : ℕ) (x : Outcome) : Type 0 where
+  pub isWord : Word (placesOf t) (x .word)
+  pub clean : (x .place ≡ 0) ↔ Codeword (moduliFor t r) (x .word)
+  pub flipped : Codeword (moduliFor t r) (flip (x .place) (x .word))
+  pub kinds : (x .place ≡ 0) ⊎ (isBinary (slots (moduliFor t r)) (x .place) ≡ true) ⊎ (isPaired (slots (moduliFor t r)) (x .place) ≡ true)
+
+abbrev pub AllMeant : ℕ → ℕ → List Outcome → Type 0
+AllMeant t r [] = Unit {0}
+AllMeant t r (x ∷ xs) = (x .refusal ≡ 0 → Meant t r x) × AllMeant t r xs

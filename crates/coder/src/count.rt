@@ -1,0 +1,37 @@
+// The counts of a record: an accepted correction adds one to words and to one of the other three.
+ghost use mathlib.Core.Path.{_≡_};
+ghost use mathlib.Core.Logic.{_≢_};
+ghost use Prim.Native.Nat.{_+_, _<_};
+ghost use Rattle.layout.specs.Gate.{hit};
+ghost use Rattle.coder.specs.State as state;
+use crate::Record;
+
+// One more where it is to be counted.
+fn add(count: u32, yes: bool) -> u32
+    requires { ⌜ count < state.fullCount ⌝ }
+    ensures { λ x. ⌜ x ≡ count + hit yes ⌝ }
+{
+    if yes { count + 1 } else { count }
+}
+
+// The record after an accepted correction that told a place. The three counts are at most their sum.
+pub(crate) fn counted(record: Record, place: u32) -> Record
+    requires { ⌜ (state.Fit «record») × («record» .words ≢ state.fullCount) ⌝ }
+    ensures { λ x. ⌜ x ≡ state.counted «record» place ⌝ }
+{
+    let t = record.t;
+    let r = record.r;
+    let all = record.words;
+    let clean = record.clean;
+    let binary = record.corrected_binary;
+    let pairs = record.corrected_pairs;
+    let width = words::width(t, r, place);
+    Record {
+        t,
+        r,
+        words: all + 1,
+        clean: add(clean, place == 0),
+        corrected_binary: add(binary, width == 1),
+        corrected_pairs: add(pairs, width == 2),
+    }
+}

@@ -1,0 +1,73 @@
+// One place of a word: which is at fault, and the word with it flipped.
+ghost use mathlib.Core.Path.{_≡_};
+ghost use mathlib.Core.List.{_++_};
+ghost use Prim.Native.Nat.{ℕ, _-_, _<_, _≤_};
+ghost use lib.Dec.{eqb};
+ghost use lib.ListN.{length, drop};
+ghost use Rattle.group.specs.Group.{moduli};
+ghost use Rattle.layout.specs.Parameters.{moduliFor};
+ghost use Rattle.layout.specs.Layout.{slots};
+ghost use Rattle.layout.specs.Calls.{shapeFor};
+ghost use Rattle.words.specs.Choice.{pick};
+ghost use Rattle.words.specs.Words as words;
+ghost use Rattle.words.specs.Syndrome.{syndrome};
+ghost use Rattle.words.specs.Halves.{widthAt};
+ghost use Rattle.words.specs.Calls as calls;
+use crate::halves;
+use group::Element;
+use layout::Shape;
+
+// The other value of a place.
+fn other(b: u8) -> u8
+    ensures { λ x. ⌜ x ≡ 1 - b ⌝ }
+{
+    if b == 0 { 1 } else { 0 }
+}
+
+// Of the two halves of a pair, the first where their bytes are equal, and else the second.
+fn half(b: u8, c: u8, i: usize, k: usize) -> usize
+    ensures { λ x. ⌜ x ≡ pick (eqb b c) i k ⌝ }
+{
+    if b == c { i } else { k }
+}
+
+// The place at fault, from the syndrome: the place of minus the syndrome, or, where the word differs
+// on the two halves of its pair, the other half.
+pub(crate) fn fault_of(t: u32, r: u32, s: Shape, e: Element, word: &[u8]) -> u32
+    requires { ⌜ (s ≡ shapeFor t r) × (0 < s .places) × (s .places ≤ length (now word)) × (e ≡ syndrome (moduliFor t r) (now word)) ⌝ }
+    ensures { λ x. ⌜ x ≡ calls.fault (moduliFor t r) (now (word .entry)) ⌝ }
+{
+    let m = group::neg(s.a, s.b, e);
+    let p = layout::place_of(t, r, m);
+    if p == 0 {
+        return 0;
+    }
+    let i = (p - 1) as usize;
+    let k = halves::other_index(s, i);
+    let j = half(word[i], word[k], i, k);
+    (j + 1) as u32
+}
+
+// Flips a place of a word that was copied to the front of `out`; place 0 and places beyond the word
+// are none.
+pub(crate) fn flip_at(word: &[u8], place: u32, out: &mut [u8])
+    requires { ⌜ (length (now word) ≤ length (now out)) × (now out ≡ now word ++ drop (length (now word)) (now out)) ⌝ }
+    ensures { λ x. ⌜ now (out .exit) ≡ words.flip place (now (word .entry)) ++ drop (length (now (word .entry))) (now (out .entry)) ⌝ }
+{
+    if place == 0 {
+        return;
+    }
+    let i = (place - 1) as usize;
+    if i < word.len() {
+        out[i] = other(word[i]);
+    }
+}
+
+// How many places the slot of an index has.
+pub(crate) fn width_of(s: Shape, i: usize) -> u32
+    requires { ⌜ ((t : ℕ) × (r : ℕ) × (s ≡ shapeFor t r)) × (i < s .places) ⌝ }
+    ensures { λ x. ⌜ x ≡ widthAt (slots (moduli (s .a) (s .b))) i ⌝ }
+{
+    let k = halves::other_index(s, i);
+    if k == i { 1 } else { 2 }
+}
