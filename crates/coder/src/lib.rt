@@ -217,12 +217,12 @@ pub fn correct(record: Record, word: &[u8], out: &mut [u8]) -> Corrected
             record,
         };
     }
-    let place = fault(record, word);
-    words::flip(word, place, out);
+    let p = fault(record, word);
+    words::flip(word, p, out);
     Corrected {
         refusal,
-        place,
-        record: count::counted(record, place),
+        place: p,
+        record: count::counted(record, p),
     }
 }
 
