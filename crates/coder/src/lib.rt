@@ -10,7 +10,7 @@ ghost use mathlib.Core.Path.{_≡_};
 ghost use denote.Ref.{ptr};
 ghost use Rattle.coder.specs.State.{fresh};
 ghost use Rattle.coder.specs.Calls.{inForce, refusedElement, opened, elementAt, wordLength, messageLength, syndromeAnswer, codewordAnswer, shown};
-ghost use Rattle.coder.specs.Calls.{encodeAnswer, encodeOutput, correctAnswer, correctOutput, invertAnswer, invertOutput, thirdAnswer};
+ghost use Rattle.coder.specs.Calls.{encodeAnswer, encodeOutput, correctAnswer, correctOutput, combineAnswer, combineOutput, invertAnswer, invertOutput, thirdAnswer};
 ghost use Rattle.words.specs.Calls.{faultFor};
 
 // Which code it is, and how many words were corrected. The last two counts are what
@@ -233,6 +233,20 @@ fn fault(record: Record, word: &[u8]) -> u32
     let t = record.t;
     let r = record.r;
     words::fault(t, r, word)
+}
+
+// Two words combined by the group law, at the front of `out`. Refused with 21, 22, 2, 3 and 4.
+pub fn combine(record: Record, first: &[u8], second: &[u8], out: &mut [u8]) -> Answer
+    ensures answer { λ x. ⌜ x ≡ combineAnswer «record» (now (first .entry)) (now (second .entry)) (now (out .entry)) ⌝ }
+    ensures bytes { λ x. ⌜ now (out .exit) ≡ combineOutput «record» (now (first .entry)) (now (second .entry)) (now (out .entry)) ⌝ }
+{
+    let a = check::two(record, first, second, out.len());
+    if a.refusal == 0 {
+        let t = record.t;
+        let r = record.r;
+        words::combine(t, r, first, second, out);
+    }
+    a
 }
 
 // The inverse of a word, at the front of `out`. Refused with 21, 22, 2, 3 and 4.

@@ -17,10 +17,11 @@ use Rattle.layout.specs.Calls.{shapeFor}
 use Rattle.layout.specs.declared.Shape.{Shape}
 use Rattle.layout.proofs.Parameters.{admits-admitted, admitted-admits, below-power, Known, moduli-known, sizes-known, zeros-for}
 use Rattle.layout.proofs.Sizes.{length-message}
-use Rattle.words.specs.Words.{inverse}
+use Rattle.words.specs.Choice.{pick}
+use Rattle.words.specs.Words.{combine, inverse}
 use Rattle.words.specs.Syndrome.{syndromeOver, syndrome}
 use Rattle.words.specs.Coding.{checkDigits, encode}
-use Rattle.words.specs.Calls.{syndromeFor, encodeFor, invertFor}
+use Rattle.words.specs.Calls.{syndromeFor, encodeFor, combineFor, invertFor}
 use Rattle.words.specs.Walk.{Laid}
 use Rattle.words.proofs.Syndromes.{syndrome-split}
 
@@ -36,6 +37,24 @@ not-admitted t r s e z = go (admits t r) refl
         let p = below-power t in
         absurd (omega arith)
     go false y = y
+
+-- a call that asks for admitted parameters first then gives what it gives where a test fails
+pub unadmitted : {A : Type 0} (t r : ℕ) (ok : Bool) (new old : A) (s : Shape) → s ≡ shapeFor t r → s .places ≡ 0
+    → old ≡ pick (admits t r && ok) new old
+unadmitted t r ok new old s e z = rw (not-admitted t r s e z)
+
+-- the tests on lengths
+module _ (t r : ℕ) (s : Shape) (k : Known t r s) where
+  too-short : (w : List ℕ) → length w < s .places → leb (placesOf t) (length w) ≡ false
+  too-short w h = lt-leb (placesOf t) (length w) (subst (λ (n : ℕ). length w < n) (k .places) h)
+
+  long-enough : (w : List ℕ) → s .places ≤ length w → leb (placesOf t) (length w) ≡ true
+  long-enough w h = le-leb (placesOf t) (length w) (subst (λ (n : ℕ). n ≤ length w) (k .places) h)
+
+  -- what is written over the front of an output, by the shape and by t and r
+  over-front : (f : List Modulus → List ℕ) (old : List ℕ)
+      → f (moduli (s .a) (s .b)) ++ drop (s .places) old ≡ f (moduliFor t r) ++ drop (placesOf t) old
+  over-front f old = ap₂ (λ (ms : List Modulus) (n : ℕ). f ms ++ drop n old) (moduli-known t r s k) (k .places)
 
 -- what the walk asks of the numbers of a shape
 pub laid : (t r : ℕ) (s : Shape) (n : ℕ) → Known t r s → s .message ≤ n → Laid (s .a) (s .b) (s .places + 1) (s .binary - s .a) n
@@ -59,14 +78,10 @@ module _ (t r : ℕ) (w : List ℕ) (s : Shape) where
   long-none e z = rw (not-admitted t r s e z)
 
   pub long-short : Known t r s → length w < s .places → isLong ≡ false
-  long-short k h =
-      let l : length w < placesOf t = subst (λ (n : ℕ). length w < n) (k .places) h in
-      rw (lt-leb (placesOf t) (length w) l) (and-false (admits t r))
+  long-short k h = rw (too-short t r s k w h) (and-false (admits t r))
 
   pub long-whole : Known t r s → s .places ≤ length w → isLong ≡ true
-  long-whole k h =
-      let l : placesOf t ≤ length w = subst (λ (n : ℕ). n ≤ length w) (k .places) h in
-      rw (admitted-admits t r (k .admitted), le-leb (placesOf t) (length w) l)
+  long-whole k h = rw (admitted-admits t r (k .admitted), long-enough t r s k w h)
 
 -- ---- the syndrome
 module _ (t r : ℕ) (w : List ℕ) (s : Shape) where
@@ -98,19 +113,13 @@ module _ (t r : ℕ) (w : List ℕ) (s : Shape) where
 
 -- ---- encoding
 module _ (t r : ℕ) (m old : List ℕ) (s : Shape) where
-  pub encode-none : s ≡ shapeFor t r → s .places ≡ 0 → old ≡ encodeFor t r m old
-  unfolding encodeFor
-  encode-none e z = rw (not-admitted t r s e z)
-
   pub encode-other : Known t r s → (length m ≡ s .message → ⊥) → old ≡ encodeFor t r m old
   unfolding encodeFor
   encode-other k n = rw (ne-eqb (length m) (messageOf t) (λ e. n (e ∙ sym (k .message))), and-false)
 
   pub encode-short : Known t r s → length old < s .places → old ≡ encodeFor t r m old
   unfolding encodeFor
-  encode-short k h =
-      let l : length old < placesOf t = subst (λ (n : ℕ). length old < n) (k .places) h in
-      rw (lt-leb (placesOf t) (length old) l, and-false, and-false)
+  encode-short k h = rw (too-short t r s k old h, and-false, and-false)
 
   -- a message of its length, and an output that is long enough: the message is copied, and the check digits follow it
   pub encode-whole : Known t r s → length m ≡ s .message → s .places ≤ length old → (x : List ℕ)
@@ -122,7 +131,6 @@ module _ (t r : ℕ) (m old : List ℕ) (s : Shape) where
       let ms = moduli (s .a) (s .b) in
       let z = sizes-known t r s k in
       let c = s .a + 2 * s .b in
-      let l : placesOf t ≤ length old = subst (λ (n : ℕ). n ≤ length old) (k .places) h in
       let n : length m + c ≡ placesOf t = omega (arith, z .check, k .places) in
       let f : take (s .message) copied ≡ m = rw (q, ← e) (take-append-seam m (drop (length m) old)) in
       let g : drop (s .message + c) copied ≡ drop (placesOf t) old =
@@ -131,7 +139,7 @@ module _ (t r : ℕ) (m old : List ℕ) (s : Shape) where
       ∙ ap (drop c) (drop-append-seam m (drop (length m) old))
       ∙ drop-drop c (length m) old
       ∙ ap (λ (j : ℕ). drop j old) n) in
-      rw (admitted-admits t r (k .admitted), eq-eqb (length m) (messageOf t) (e ∙ k .message), le-leb (placesOf t) (length old) l, f, g, p, ← moduli-known t r s k)
+      rw (admitted-admits t r (k .admitted), eq-eqb (length m) (messageOf t) (e ∙ k .message), long-enough t r s k old h, f, g, p, ← moduli-known t r s k)
       (sym (append-assoc m (checkDigits ms (negative ms (syndromeOver ms (message ms) m))) (drop (placesOf t) old)))
 
 -- a copy to the front of an output leaves its length
@@ -139,29 +147,41 @@ pub copied-length : (m old copied : List ℕ) → length m ≤ length old → co
 copied-length m old copied h e = rw (e, length-append, length-drop) (omega arith)
 
 -- ---- the inverse
-module _ (t r : ℕ) (w old : List ℕ) (s : Shape) where
-  pub invert-none : s ≡ shapeFor t r → s .places ≡ 0 → old ≡ invertFor t r w old
+module _ (t r : ℕ) (w old : List ℕ) (s : Shape) (k : Known t r s) where
+  pub invert-short : length w < s .places → old ≡ invertFor t r w old
   unfolding invertFor
-  invert-none e z = rw (not-admitted t r s e z)
+  invert-short h = rw (too-short t r s k w h, and-false)
 
-  pub invert-short : Known t r s → length w < s .places → old ≡ invertFor t r w old
+  pub invert-narrow : length old < s .places → old ≡ invertFor t r w old
   unfolding invertFor
-  invert-short k h =
-      let l : length w < placesOf t = subst (λ (n : ℕ). length w < n) (k .places) h in
-      rw (lt-leb (placesOf t) (length w) l, and-false)
-
-  pub invert-narrow : Known t r s → length old < s .places → old ≡ invertFor t r w old
-  unfolding invertFor
-  invert-narrow k h =
-      let l : length old < placesOf t = subst (λ (n : ℕ). length old < n) (k .places) h in
-      rw (lt-leb (placesOf t) (length old) l, and-false, and-false)
+  invert-narrow h = rw (too-short t r s k old h, and-false, and-false)
 
   -- a word and an output that are long enough
-  pub invert-whole : Known t r s → s .places ≤ length w → s .places ≤ length old
+  pub invert-whole : s .places ≤ length w → s .places ≤ length old
       → inverse (slots (moduli (s .a) (s .b))) w ++ drop (s .places) old ≡ invertFor t r w old
   unfolding invertFor
-  invert-whole k h l =
-      let h′ : placesOf t ≤ length w = subst (λ (n : ℕ). n ≤ length w) (k .places) h in
-      let l′ : placesOf t ≤ length old = subst (λ (n : ℕ). n ≤ length old) (k .places) l in
-      rw (admitted-admits t r (k .admitted), le-leb (placesOf t) (length w) h′, le-leb (placesOf t) (length old) l′)
-      (ap₂ (λ (ms : List Modulus) (n : ℕ). inverse (slots ms) w ++ drop n old) (moduli-known t r s k) (k .places))
+  invert-whole h l =
+      rw (admitted-admits t r (k .admitted), long-enough t r s k w h, long-enough t r s k old l)
+      (over-front t r s k (λ (ms : List Modulus). inverse (slots ms) w) old)
+
+-- ---- combining
+module _ (t r : ℕ) (x y old : List ℕ) (s : Shape) (k : Known t r s) where
+  pub combine-first : length x < s .places → old ≡ combineFor t r x y old
+  unfolding combineFor
+  combine-first h = rw (too-short t r s k x h, and-false)
+
+  pub combine-second : length y < s .places → old ≡ combineFor t r x y old
+  unfolding combineFor
+  combine-second h = rw (too-short t r s k y h, and-false, and-false)
+
+  pub combine-narrow : length old < s .places → old ≡ combineFor t r x y old
+  unfolding combineFor
+  combine-narrow h = rw (too-short t r s k old h, and-false, and-false, and-false)
+
+  -- two words and an output that are long enough
+  pub combine-whole : s .places ≤ length x → s .places ≤ length y → s .places ≤ length old
+      → combine (slots (moduli (s .a) (s .b))) x y ++ drop (s .places) old ≡ combineFor t r x y old
+  unfolding combineFor
+  combine-whole h m l =
+      rw (admitted-admits t r (k .admitted), long-enough t r s k x h, long-enough t r s k y m, long-enough t r s k old l)
+      (over-front t r s k (λ (ms : List Modulus). combine (slots ms) x y) old)

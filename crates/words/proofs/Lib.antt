@@ -4,8 +4,8 @@
 -- admitted t and r. Widths says which places are binary. Table has document 01's cases marked P.
 -- For the code: Syndromes (the syndrome of any bytes, by its parts), Walking, NextUnits and Walks (the walk over the numbers), Checking and
 -- CheckWriting (check digits read and written), OtherHalf (the other half of a pair, by index), TwoOnes and Told (the third place from the
--- elements of two), Writing (a loop that writes over the front of an output), Shapes (the numbers of a code), Answers (the calls by
--- their tests), Faults (the place at fault from the syndrome, and a word with one place flipped).
+-- elements of two), Writing (a loop that writes over the front of an output), Shapes (the numbers of a code), PlaceSums (two words
+-- combined, by index), Answers (the calls by their tests), Faults (the place at fault from the syndrome, and a word with one place flipped).
 pub mod Reading
 pub mod Combining
 pub mod Flips
@@ -28,6 +28,7 @@ pub mod CheckWriting
 pub mod Told
 pub mod Writing
 pub mod Shapes
+pub mod PlaceSums
 pub mod Answers
 pub mod Widths
 pub mod Faults

@@ -47,7 +47,7 @@ other-negative ms (pair z ∷ sl) (suc zero) g = refl
 other-negative ms (pair z ∷ sl) (suc (suc i)) g = other-negative ms sl i (g .2)
 
 -- ---- the inverse of a word, by index
-later-at : (w : List ℕ) (i : ℕ) → getD (tl w) i 0 ≡ getD w (suc i) 0
+pub later-at : (w : List ℕ) (i : ℕ) → getD (tl w) i 0 ≡ getD w (suc i) 0
 later-at [] i = refl
 later-at (b ∷ w) i = refl
 

@@ -6,12 +6,7 @@ use native.Mathlib.Numerals.{add-one}
 use native.Mathlib.Omega.{arith}
 use lib.ListN.{length, take, drop, getD, set, length-set}
 use lib.Seq.{take-length}
-
--- the first i bytes of s are written over those of o, which makes r
-pub record Written (s o r : List ℕ) (i : ℕ) : Type 0 where
-  pub within : i ≤ length s
-  pub room : length r ≡ length o
-  pub bytes : r ≡ take i s ++ drop i o
+use Rattle.words.specs.Writing.{Written}
 
 pub write-none : (s o : List ℕ) → Written s o o 0
 write-none s o = record { within = omega arith; room = refl; bytes = refl }

@@ -5,10 +5,11 @@ mod check;
 mod halves;
 mod ones;
 mod place;
+mod sums;
 mod walk;
 
 ghost use mathlib.Core.Path.{_≡_};
-ghost use Rattle.words.specs.Calls.{syndromeFor, faultFor, flipFor, widthFor, encodeFor, invertFor, thirdFor};
+ghost use Rattle.words.specs.Calls.{syndromeFor, faultFor, flipFor, widthFor, encodeFor, combineFor, invertFor, thirdFor};
 use group::Element;
 
 // The syndrome of the first n bytes of a word; zero where t and r are not admitted or the word is
@@ -99,6 +100,27 @@ pub fn width(t: u32, r: u32, place: u32) -> u32
         return place::width_of(s, (place - 1) as usize);
     }
     0
+}
+
+// Two words combined, their first n bytes, written to the first n bytes of `out`.
+pub fn combine(t: u32, r: u32, first: &[u8], second: &[u8], out: &mut [u8])
+    ensures { λ x. ⌜ now (out .exit) ≡ combineFor t r (now (first .entry)) (now (second .entry)) (now (out .entry)) ⌝ }
+{
+    let s = layout::shape_of(t, r);
+    let count = s.places as usize;
+    if count == 0 {
+        return;
+    }
+    if first.len() < count {
+        return;
+    }
+    if second.len() < count {
+        return;
+    }
+    if out.len() < count {
+        return;
+    }
+    sums::combine(s, first, second, out);
 }
 
 // The inverse of a word, its first n bytes, written to the first n bytes of `out`.

@@ -4,7 +4,8 @@ use mathlib.Core.Path.{ap, _∙_}
 use native.Mathlib.Omega.{arith}
 use Rattle.group.specs.Group.{negative}
 use Rattle.layout.proofs.Parameters.{Known, known, sizes-known}
-use Rattle.words.proofs.Answers.{laid, encode-none, encode-other, encode-short, encode-whole, copied-length}
+use Rattle.words.specs.Calls.{encodeFor}
+use Rattle.words.proofs.Answers.{unadmitted, laid, encode-other, encode-short, encode-whole, copied-length}
 use Rattle.words.proofs.encode.Statement.{statement}
 use Rattle.words.proofs.encode.Tie as tie
 
@@ -21,7 +22,8 @@ cast-front : tie.Need-cast-front
 cast-front c = search needs
 
 returns : tie.Need-returns
-returns c = encode-none _ _ _ _ _ (c .before .before .before .before .shape-of .ensures) (c .if1 .taken)
+unfolding encodeFor
+returns c = unadmitted _ _ _ _ _ _ (c .before .before .before .before .shape-of .ensures) (c .if1 .taken)
 
 -- past the first test the parameters are admitted
 shaped : (c : tie.Else1) → Known (c .before .before .before .before .before .before .before .args .t) (c .before .before .before .before .before .before .before .args .r) (c .before .before .before .before .shape-of .result)

@@ -3,7 +3,8 @@ use borrow.Author.Needs.{needs}
 use mathlib.Core.Path.{_∙_}
 use native.Mathlib.Omega.{arith}
 use Rattle.layout.proofs.Parameters.{Known, known}
-use Rattle.words.proofs.Answers.{invert-none, invert-short, invert-narrow, invert-whole}
+use Rattle.words.specs.Calls.{invertFor}
+use Rattle.words.proofs.Answers.{unadmitted, invert-short, invert-narrow, invert-whole}
 use Rattle.words.proofs.invert.Statement.{statement}
 use Rattle.words.proofs.invert.Tie as tie
 
@@ -14,7 +15,8 @@ cast-n : tie.Need-cast-n
 cast-n c = search needs
 
 returns : tie.Need-returns
-returns c = invert-none _ _ _ _ _ (c .before .before .shape-of .ensures) (c .if1 .taken)
+unfolding invertFor
+returns c = unadmitted _ _ _ _ _ _ (c .before .before .shape-of .ensures) (c .if1 .taken)
 
 -- past the first test the parameters are admitted
 shaped : (c : tie.Else1)

@@ -5,7 +5,8 @@ use mathlib.Core.List.{_++_}
 use Prim.Native.Nat.{ℕ, _-_}
 use native.Mathlib.Omega.{arith}
 use lib.ListN.{length, drop}
-use Rattle.words.proofs.Writing.{Written, write-none, write-step, write-end}
+use Rattle.words.specs.Writing.{Written}
+use Rattle.words.proofs.Writing.{write-none, write-step, write-end}
 use Rattle.words.proofs.check.copy.Statement.{statement}
 use Rattle.words.proofs.check.copy.Tie as tie
 

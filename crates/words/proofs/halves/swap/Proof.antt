@@ -10,7 +10,8 @@ use Rattle.layout.specs.Layout.{slots, places}
 use Rattle.layout.specs.declared.Shape.{Shape}
 use Rattle.words.specs.Words.{inverse}
 use Rattle.words.specs.Halves.{otherAt}
-use Rattle.words.proofs.Writing.{Written, write-none, write-step, write-end}
+use Rattle.words.specs.Writing.{Written}
+use Rattle.words.proofs.Writing.{write-none, write-step, write-end}
 use Rattle.words.proofs.OtherHalf.{inverse-at, length-inverse}
 use Rattle.words.proofs.Shapes.{OfCode, length-slots, other-within}
 use Rattle.words.proofs.halves.swap.Statement.{statement}
