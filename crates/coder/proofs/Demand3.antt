@@ -18,12 +18,13 @@ use Rattle.words.proofs.Reading.{word-reads, reads-word}
 use Rattle.words.proofs.Flips.{flip-twice}
 use Rattle.words.proofs.Perfect.{flip-place-reads}
 use Rattle.words.proofs.Theorem.{length-code, code}
-use Rattle.coder.specs.State.{Fit, moduliIn, placesIn, messageIn, encodedIn, correctedIn, correctedPlaceIn, combineIn}
-use Rattle.coder.specs.Calls.{encodeOutput, correctAnswer, correctOutput, combineOutput}
+use Rattle.coder.specs.State.{fresh, moduliIn, placesIn, messageIn, encodedIn, correctedIn, correctedPlaceIn, combineIn}
+use Rattle.coder.specs.Calls.{opened, encodeOutput, correctOutput, combineOutput}
 use Rattle.coder.specs.Demand3.{Own, NotFull, AcceptsMessage, encodedBy, AcceptsTwo, combinedBy, AcceptsWord, correctedBy, placeBy, MovedBy, Demand3}
 use Rattle.coder.specs.declared.Record.{Record}
 use Rattle.coder.specs.declared.Answer.{Answer}
 use Rattle.coder.specs.declared.Corrected.{Corrected}
+use Rattle.coder.proofs.Refusals.{opens, fresh-fit}
 use Rattle.coder.proofs.Accepted.{encode-accepts, correct-accepts, combine-accepts}
 use Rattle.coder.proofs.Moves.{moved-by}
 
@@ -195,3 +196,11 @@ module _ (t r : ℕ) (ok : Admitted t r) where
             (a .0, b .0, λ e. one-choice m m′ k k′ i j l l′ (ap (flip i) (sym (a .1)) ∙ e ∙ ap (flip j) (b .1)));
         carries = along w h;
       }
+
+-- it is not empty: opening gives a record that each of the calls can have for its own, and words is not full in it
+pub opened-own : (t r : ℕ) → Admitted t r → (out : List ℕ) → placesOf t ≤ length out → (o : Own t r) × (opened t r ≡ record { refusal = 0; «record» = o .given }) × NotFull o
+opened-own t r h out l = (
+  record { given = fresh t r; isT = refl; isR = refl; fit = fresh-fit t r h; output = out; enough = l },
+  opens t r h,
+  (λ z. omega arith),
+)

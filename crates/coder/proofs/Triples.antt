@@ -1,18 +1,58 @@
--- Demand 2 of the inverse and the third place: what the calls write and tell, with an open and fit record. Assumes nothing.
-use mathlib.Core.Path.{_≡_, sym, ap, _∙_, subst}
+-- Demand 2 of combining, the inverse and the third place: what the calls write and tell, with an open and fit record. Assumes nothing.
+use mathlib.Core.Path.{_≡_, sym, ap, ap₂, _∙_, subst}
 use mathlib.Core.Logic.{_≢_}
 use mathlib.Core.List.{List, _++_}
 use Prim.Native.Nat.{ℕ, _≤_, _<_}
 use lib.ListN.{length, take, drop}
 use Rattle.words.specs.Words.{Word, zeroWord}
-use Rattle.words.specs.Claims.{ThirdOf}
+use Rattle.group.specs.Group.{zeros, sum}
+use Rattle.group.proofs.Laws.{valid-zeros, zero-sum}
+use Rattle.words.specs.Claims.{GroupOf, ThirdOf}
 use Rattle.words.proofs.Theorem.{length-code, word-code, code}
-use Rattle.coder.specs.State.{Fit, moduliIn, placesIn, combineIn, inverseIn, thirdIn}
+use Rattle.coder.specs.State.{Fit, moduliIn, placesIn, CodewordIn, combineIn, inverseIn, thirdIn}
 use Rattle.coder.specs.Calls.{invertOutput, thirdAnswer}
-use Rattle.coder.specs.Claims.{Inverts, Thirds}
+use Rattle.coder.specs.Claims.{Combines, Inverts, Thirds}
 use Rattle.coder.specs.declared.Record.{Record}
 use Rattle.coder.specs.declared.Answer.{Answer}
-use Rattle.coder.proofs.Accepted.{front, invert-accepts, third-accepts}
+use Rattle.coder.proofs.Accepted.{front, combine-accepts, invert-accepts, third-accepts}
+
+-- ---- combining
+module _ (rec : Record) (x y out : List ℕ) (f : Fit rec) (h : Word (placesIn rec) x) (k : Word (placesIn rec) y) (l : placesIn rec ≤ length out) where
+  laws : GroupOf (moduliIn rec)
+  laws = code (rec .t) (rec .r) (f .admitted) .groups
+
+  combined-word : Word (placesIn rec) (combineIn rec x y)
+  unfolding placesIn combineIn
+  combined-word =
+      subst (λ (n : ℕ). Word n (combineIn rec x y)) (length-code (rec .t) (rec .r) (f .admitted))
+      (laws .closed x y (word-code (rec .t) (rec .r) (f .admitted) h) (word-code (rec .t) (rec .r) (f .admitted) k))
+
+  -- codewords are closed: the sum of two zeros is zero
+  combined-codeword : CodewordIn rec x → CodewordIn rec y → CodewordIn rec (combineIn rec x y)
+  unfolding combineIn
+  combined-codeword a b =
+      let ms = moduliIn rec in
+      record {
+        isWord = laws .closed x y (a .isWord) (b .isWord);
+        isZero = laws .adds x y (a .isWord) (b .isWord) ∙ ap₂ (sum ms) (a .isZero) (b .isZero) ∙ zero-sum ms (zeros ms) (valid-zeros ms);
+      }
+
+  swapped : combineIn rec y x ≡ combineIn rec x y
+  unfolding combineIn
+  swapped = laws .commutes y x
+
+  pub combines : Combines rec x y out
+  combines =
+      let a = combine-accepts rec x y out f h k l in
+      let p = front (placesIn rec) (combineIn rec x y) out (combined-word .places) in
+      let e = ap (take (placesIn rec)) (a .1) ∙ p .0 in
+      record {
+        accepted = a .0;
+        word = rw e combined-word;
+        either = combine-accepts rec y x out f k h l .1 ∙ ap (λ (v : List ℕ). v ++ drop (placesIn rec) out) swapped ∙ sym (a .1);
+        codeword = λ c d. rw e (combined-codeword c d);
+        further = ap (drop (placesIn rec)) (a .1) ∙ p .1;
+      }
 
 -- ---- the inverse
 module _ (rec : Record) (w out : List ℕ) (f : Fit rec) (h : Word (placesIn rec) w) (l : placesIn rec ≤ length out) where

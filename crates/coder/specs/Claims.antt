@@ -9,7 +9,7 @@ use lib.ListN.{length, getD, take, drop}
 use Rattle.words.specs.Words.{Bits, Word, zeroWord}
 use Rattle.coder.specs.State.{Fit, placesIn, messageIn, CodewordIn, combineIn, ThreeIn}
 use Rattle.coder.specs.Reasons.{Reason}
-use Rattle.coder.specs.Calls.{encodeAnswer, encodeOutput, shown, invertAnswer, invertOutput, thirdAnswer}
+use Rattle.coder.specs.Calls.{encodeAnswer, encodeOutput, shown, combineAnswer, combineOutput, invertAnswer, invertOutput, thirdAnswer}
 use Rattle.coder.specs.declared.Record.{Record}
 
 -- none of the reasons applies
@@ -69,6 +69,14 @@ pub record Encodes (rec : Record) (m out : List ℕ) : Type 0 where
   pub further : drop (placesIn rec) (encodeOutput rec m out) ≡ drop (placesIn rec) out
   pub shows : (other : Record) → Fit other → other .t ≡ rec .t → other .r ≡ rec .r
       → shown other (take (placesIn rec) (encodeOutput rec m out)) ≡ m
+
+-- what combining wrote into the first n bytes of an output: a word, the same in either order, and a codeword where both are
+pub record Combines (rec : Record) (x y out : List ℕ) : Type 0 where
+  pub accepted : combineAnswer rec x y out ≡ record { refusal = 0; place = 0 }
+  pub word : Word (placesIn rec) (take (placesIn rec) (combineOutput rec x y out))
+  pub either : combineOutput rec y x out ≡ combineOutput rec x y out
+  pub codeword : CodewordIn rec x → CodewordIn rec y → CodewordIn rec (take (placesIn rec) (combineOutput rec x y out))
+  pub further : drop (placesIn rec) (combineOutput rec x y out) ≡ drop (placesIn rec) out
 
 -- what the inverse call wrote into the first n bytes of an output: the word that makes the zero word with w
 pub record Inverts (rec : Record) (w out : List ℕ) : Type 0 where
