@@ -18,7 +18,8 @@ use Rattle.coder.specs.Calls.{correctReasons, correctAnswer, correctOutp
 use Rattle.coder.specs.Calls.{invertReasons, invertAnswer, invertOutput, thirdReasons, thirdAnswer}
 use Rattle.coder.specs.Claims.{NoneApplies}
 use Rattle.coder.specs.declared.Record.{Record}
-use Rattle.coder.proofs.Firsts.{none-first, none-append}
+use Rattle.coder.specs.declared.Corrected.{Corrected}
+use Rattle.coder.proofs.Firsts.{first-yes, first-past, none-first, none-append}
 use Rattle.coder.proofs.States.{fit-true}
 use Rattle.coder.proofs.Bytes.{bits-none}
 use Rattle.coder.proofs.Told.{reads}
@@ -42,12 +43,12 @@ write-none rec n w room f h l =
     (k .0, (k .1, (right-length n w h, (le-ltb room (placesIn rec) l, (no-bad n w h, tt)))))
 
 pub correct-none : (rec : Record) (w out : List ℕ) → Fit rec → rec .words ≢ fullCount → Word (placesIn rec) w → placesIn rec ≤ length out
-    → NoneApplies (correctReasons rec w out)
+    → NoneApplies (correctReasons rec w (length out))
 correct-none rec w out f n h l =
     none-append (writeReasons rec (placesIn rec) w (length out)) (full rec ∷ []) (write-none rec (placesIn rec) w (length out) f h l) (ne-eqb (rec .words) fullCount n, tt)
 
 pub combine-none : (rec : Record) (x y out : List ℕ) → Fit rec → Word (placesIn rec) x → Word (placesIn rec) y → placesIn rec ≤ length out
-    → NoneApplies (combineReasons rec x y out)
+    → NoneApplies (combineReasons rec x y (length out))
 combine-none rec x y out f h i l =
     let n = placesIn rec in
     let k = fit-true rec f in
@@ -72,26 +73,41 @@ pub encode-accepts : (rec : Record) (m out : List ℕ) → Fit rec → Word (mes
     → (encodeAnswer rec m out ≡ record { refusal = 0; place = 0 }) × (encodeOutput rec m out ≡ encodedIn rec m ++ drop (placesIn rec) out)
 unfolding encodeAnswer encodeOutput
 encode-accepts rec m out f h l =
-    let e = none-first (encodeReasons rec m out) (write-none rec (messageIn rec) m (length out) f h l) in (rw e, rw e)
+    let e = none-first (encodeReasons rec m (length out)) (write-none rec (messageIn rec) m (length out) f h l) in (rw e, rw e)
 
 pub correct-accepts : (rec : Record) (w out : List ℕ) → Fit rec → rec .words ≢ fullCount → Word (placesIn rec) w → placesIn rec ≤ length out
     → (correctAnswer rec w out ≡ record { refusal = 0; place = correctedPlaceIn rec w; «record» = counted rec (correctedPlaceIn rec w) })
     × (correctOutput rec w out ≡ correctedIn rec w ++ drop (placesIn rec) out)
 unfolding correctAnswer correctOutput
 correct-accepts rec w out f n h l =
-    let e = none-first (correctReasons rec w out) (correct-none rec w out f n h l) in (rw e, rw e)
+    let e = none-first (correctReasons rec w (length out)) (correct-none rec w out f n h l) in (rw e, rw e)
+
+-- "Words at 4,294,967,294 is accepted once more.", and then comes 23
+pub once-more : (rec : Record) (w out : List ℕ) → Fit rec → rec .words ≡ 4294967294 → Word (placesIn rec) w → placesIn rec ≤ length out
+    → (correctAnswer rec w out .refusal ≡ 0) × (correctAnswer rec w out .«record» .words ≡ fullCount)
+unfolding counted
+once-more rec w out f e h l =
+    let a = correct-accepts rec w out f (λ z. let c : _≡_ {A = ℕ} 4294967294 4294967295 = sym e ∙ z in omega arith) h l .0 in
+    (ap (λ (x : Corrected). x .refusal) a, ap (λ (x : Corrected). x .«record» .words) a ∙ omega arith)
+
+pub full-refused : (rec : Record) (w out : List ℕ) → Fit rec → rec .words ≡ fullCount → Word (placesIn rec) w → placesIn rec ≤ length out
+    → correctAnswer rec w out ≡ record { refusal = 23; place = 0; «record» = rec }
+unfolding correctAnswer
+full-refused rec w out f e h l =
+    let rs = writeReasons rec (placesIn rec) w (length out) in
+    rw (first-past rs (full rec ∷ []) (write-none rec (placesIn rec) w (length out) f h l) ∙ first-yes (full rec) [] (eq-eqb (rec .words) fullCount e))
 
 pub combine-accepts : (rec : Record) (x y out : List ℕ) → Fit rec → Word (placesIn rec) x → Word (placesIn rec) y → placesIn rec ≤ length out
     → (combineAnswer rec x y out ≡ record { refusal = 0; place = 0 }) × (combineOutput rec x y out ≡ combineIn rec x y ++ drop (placesIn rec) out)
 unfolding combineAnswer combineOutput
 combine-accepts rec x y out f h i l =
-    let e = none-first (combineReasons rec x y out) (combine-none rec x y out f h i l) in (rw e, rw e)
+    let e = none-first (combineReasons rec x y (length out)) (combine-none rec x y out f h i l) in (rw e, rw e)
 
 pub invert-accepts : (rec : Record) (w out : List ℕ) → Fit rec → Word (placesIn rec) w → placesIn rec ≤ length out
     → (invertAnswer rec w out ≡ record { refusal = 0; place = 0 }) × (invertOutput rec w out ≡ inverseIn rec w ++ drop (placesIn rec) out)
 unfolding invertAnswer invertOutput
 invert-accepts rec w out f h l =
-    let e = none-first (invertReasons rec w out) (write-none rec (placesIn rec) w (length out) f h l) in (rw e, rw e)
+    let e = none-first (invertReasons rec w (length out)) (write-none rec (placesIn rec) w (length out) f h l) in (rw e, rw e)
 
 -- ---- the third place
 inside : (rec : Record) (p : ℕ) → 1 ≤ p → p ≤ placesIn rec → outside rec p .applies ≡ false

@@ -1,8 +1,8 @@
 -- The first byte above 1: how a scan finds it, and what the place that is told with refusal 4 means. Assumes nothing.
-use mathlib.Core.Path.{_≡_, refl, sym, _∙_}
+use mathlib.Core.Path.{_≡_, refl, sym, subst, _∙_}
 use mathlib.Core.Logic.{_≢_}
 use mathlib.Core.List.{List, [], _∷_}
-use Prim.Native.Nat.{ℕ, zero, suc, _+_, _-_, _≤_, _<_}
+use Prim.Native.Nat.{ℕ, zero, suc, _+_, _≤_, _<_}
 use native.Mathlib.Numerals.{add-one}
 use native.Mathlib.Omega.{arith}
 use native.Mathlib.Decide.{decLt}
@@ -11,7 +11,7 @@ use lib.ListN.{length, drop, getD, drop-of-length-le}
 use lib.Seq.{drop-cons}
 use Rattle.words.specs.Words.{Bits}
 use Rattle.coder.specs.Reasons.{badFrom, badPlace}
-use Rattle.coder.specs.Claims.{Lowest}
+use Rattle.coder.specs.Claims.{byteAt, Lowest}
 
 bad-none : (b p : ℕ) (w : List ℕ) → b ≤ 1 → badFrom p (b ∷ w) ≡ badFrom (suc p) w
 unfolding badFrom
@@ -84,14 +84,10 @@ found p (b ∷ w) h = go (decLt 1 b) (found (suc p) w)
 pub lowest : (w : List ℕ) → badPlace w ≢ 0 → Lowest w (badPlace w)
 lowest w h =
     let f = found _ w h in
-    go (f .index) (badPlace w) (f .place ∙ (omega arith)) (f .inside) (f .above) (f .before)
+    let e : badPlace w ≡ suc (f .index) = f .place ∙ (omega arith) in
+    subst (Lowest w) (sym e)
+    (record { least = omega arith; most = let l = f .inside in omega arith; above = f .above; before = earlier (f .index) (f .before) })
   where
-    go : (i p : ℕ) → p ≡ suc i → i < length w → 1 < getD w i 0 → ((k : ℕ) → k < i → getD w k 0 ≤ 1) → Lowest w p
-    go i p e l a b =
-        let z : p - 1 ≡ i = omega arith in
-        record {
-          least = omega arith;
-          most = omega arith;
-          above = rw z a;
-          before = λ q k m. b (q - 1) (omega arith);
-        }
+    earlier : (i : ℕ) → ((k : ℕ) → k < i → getD w k 0 ≤ 1) → (q : ℕ) → 1 ≤ q → q < suc i → byteAt w q ≤ 1
+    earlier i b zero k m = absurd (omega arith)
+    earlier i b (suc q) k m = b q (omega arith)

@@ -1,4 +1,4 @@
--- Demand 3, one theorem on the calls: `demand3`. Its statement is `Demand3` in specs/Demand3. Assumes nothing.
+-- Demand 3, one theorem on the calls: `demand3`. Its statement is in specs/Demand3. Assumes nothing.
 use mathlib.Core.Path.{_≡_, refl, sym, ap, ap₂, subst, _∙_}
 use mathlib.Core.Logic.{_≢_, _↔_}
 use mathlib.Core.Bool.{Bool, true, false}
@@ -17,10 +17,10 @@ use Rattle.words.specs.Claims.{messageLengthOf, PerfectAt, CodeOf}
 use Rattle.words.proofs.Reading.{word-reads, reads-word}
 use Rattle.words.proofs.Flips.{flip-twice}
 use Rattle.words.proofs.Perfect.{flip-place-reads}
-use Rattle.words.proofs.Theorem.{length-code, code}
+use Rattle.words.proofs.Theorem.{length-code, word-code, code}
 use Rattle.coder.specs.State.{fresh, moduliIn, placesIn, messageIn, encodedIn, correctedIn, correctedPlaceIn, combineIn}
 use Rattle.coder.specs.Calls.{opened, encodeOutput, correctOutput, combineOutput}
-use Rattle.coder.specs.Demand3.{Own, NotFull, AcceptsMessage, encodedBy, AcceptsTwo, combinedBy, AcceptsWord, correctedBy, placeBy, MovedBy, Demand3}
+use Rattle.coder.specs.Demand3.{Own, NotFull, AcceptsMessage, encodedBy, AcceptsTwo, combinedBy, AcceptsWord, correctedBy, placeBy, MovedBy, AtWord, Demand3}
 use Rattle.coder.specs.declared.Record.{Record}
 use Rattle.coder.specs.declared.Answer.{Answer}
 use Rattle.coder.specs.declared.Corrected.{Corrected}
@@ -38,19 +38,19 @@ module _ (t r : ℕ) (ok : Admitted t r) where
   -- ---- what the calls do with a record and an output of their own, in terms of t and r
   module _ (o : Own t r) where
     same-code : moduliIn (o .given) ≡ ms
-    same-code = ap₂ moduliFor (o .isT) (o .isR)
+    same-code = ap₂ moduliFor (o .code .isT) (o .code .isR)
 
     word-in : {w : List ℕ} → Word (placesOf t) w → Word (placesIn (o .given)) w
     unfolding placesIn
-    word-in {w} h = subst (λ (k : ℕ). Word (placesOf k) w) (sym (o .isT)) h
+    word-in {w} h = subst (λ (k : ℕ). Word (placesOf k) w) (sym (o .code .isT)) h
 
     message-in : {m : List ℕ} → Word (messageOf t) m → Word (messageIn (o .given)) m
     unfolding messageIn
-    message-in {m} h = subst (λ (k : ℕ). Word (messageOf k) m) (sym (o .isT)) h
+    message-in {m} h = subst (λ (k : ℕ). Word (messageOf k) m) (sym (o .code .isT)) h
 
     room-in : placesIn (o .given) ≤ length (o .output)
     unfolding placesIn
-    room-in = subst (λ (k : ℕ). placesOf k ≤ length (o .output)) (sym (o .isT)) (o .enough)
+    room-in = subst (λ (k : ℕ). placesOf k ≤ length (o .output)) (sym (o .code .isT)) (o .enough)
 
     -- the first n bytes of an output are the word that was written
     front-by : (new kept x : List ℕ) → Word (placesOf t) new → x ≡ new ++ kept → take (placesOf t) x ≡ new
@@ -60,7 +60,7 @@ module _ (t r : ℕ) (ok : Admitted t r) where
     encode-does : (m : List ℕ) → Word (messageOf t) m → Word (placesOf t) (encode ms m) → AcceptsMessage o m × (encodedBy o m ≡ encode ms m)
     unfolding encodedIn
     encode-does m h k =
-        let a = encode-accepts (o .given) m (o .output) (o .fit) (message-in h) room-in in (
+        let a = encode-accepts (o .given) m (o .output) (o .code .fit) (message-in h) room-in in (
           ap (λ (x : Answer). x .refusal) (a .0),
           front-by (encode ms m) (drop (placesIn (o .given)) (o .output)) (encodeOutput (o .given) m (o .output)) k
               (a .1 ∙ ap (λ (s : List Modulus). encode s m ++ drop (placesIn (o .given)) (o .output)) same-code),
@@ -70,7 +70,7 @@ module _ (t r : ℕ) (ok : Admitted t r) where
         → AcceptsTwo o x y × (combinedBy o x y ≡ combine (slots ms) x y)
     unfolding combineIn
     combine-does x y h i k =
-        let a = combine-accepts (o .given) x y (o .output) (o .fit) (word-in h) (word-in i) room-in in (
+        let a = combine-accepts (o .given) x y (o .output) (o .code .fit) (word-in h) (word-in i) room-in in (
           ap (λ (x : Answer). x .refusal) (a .0),
           front-by (combine (slots ms) x y) (drop (placesIn (o .given)) (o .output)) (combineOutput (o .given) x y (o .output)) k
               (a .1 ∙ ap (λ (s : List Modulus). combine (slots s) x y ++ drop (placesIn (o .given)) (o .output)) same-code),
@@ -80,7 +80,7 @@ module _ (t r : ℕ) (ok : Admitted t r) where
         → AcceptsWord o w × (correctedBy o w ≡ corrected ms w) × (placeBy o w ≡ correctedPlace ms w)
     unfolding correctedIn correctedPlaceIn
     correct-does w n h k =
-        let a = correct-accepts (o .given) w (o .output) (o .fit) n (word-in h) room-in in (
+        let a = correct-accepts (o .given) w (o .output) (o .code .fit) n (word-in h) room-in in (
           ap (λ (x : Corrected). x .refusal) (a .0),
           front-by (corrected ms w) (drop (placesIn (o .given)) (o .output)) (correctOutput (o .given) w (o .output)) k
               (a .1 ∙ ap (λ (s : List Modulus). corrected s w ++ drop (placesIn (o .given)) (o .output)) same-code),
@@ -94,11 +94,8 @@ module _ (t r : ℕ) (ok : Admitted t r) where
   is-word : {x : List ℕ} → Codeword ms x → Word (placesOf t) x
   is-word h = word-of (h .isWord)
 
-  to-code : {x : List ℕ} → Word (placesOf t) x → Word (lengthOf ms) x
-  to-code {x} h = subst (λ (n : ℕ). Word n x) (sym (length-code t r ok)) h
-
   combine-word : {x y : List ℕ} → Word (placesOf t) x → Word (placesOf t) y → Word (placesOf t) (combine (slots ms) x y)
-  combine-word {x} {y} h k = word-of (theorems .groups .closed x y (to-code h) (to-code k))
+  combine-word {x} {y} h k = word-of (theorems .groups .closed x y (word-code t r ok h) (word-code t r ok k))
 
   -- ---- (4): the received word determines the place, so the codeword, so the message
   module _ (m m′ : List ℕ) (h : Word (messageOf t) m) (h′ : Word (messageOf t) m′) (i j : ℕ) (k : i ≤ placesOf t) (k′ : j ≤ placesOf t) where
@@ -146,13 +143,6 @@ module _ (t r : ℕ) (ok : Admitted t r) where
     within : p ≤ placesOf t
     within = subst (λ (n : ℕ). p ≤ n) (length-code t r ok) (near .within)
 
-    place-differs : p ≢ 0 → (1 ≤ p) × (p ≤ placesOf t) × (c ≡ flip p w)
-    place-differs n = (positive p n, within, near .flipped)
-      where
-        positive : (q : ℕ) → q ≢ 0 → 1 ≤ q
-        positive zero n = absurd (n refl)
-        positive (suc q) n = omega arith
-
     -- ---- (3)
     again : (o : Own t r) → AcceptsMessage o (take (messageOf t) c) × (encodedBy o (take (messageOf t) c) ≡ c)
     again o =
@@ -178,16 +168,18 @@ module _ (t r : ℕ) (ok : Admitted t r) where
           subst (MovedBy t r d p) (sym (ap (placeBy o₂) (a .1) ∙ b .2 ∙ v .place)) (moved-by t r ok d p within),
         )
 
-  pub demand3 : (w : List ℕ) → Word (placesOf t) w → Demand3 t r w
-  demand3 w h =
+  at-word : (w : List ℕ) → Word (placesOf t) w → AtWord t r w
+  at-word w h =
       record {
         c = corrected ms w;
         codeword = near w h .codeword;
+        isWord = is-word (near w h .codeword);
         near = near w h .near;
         only = near w h .only;
         p = correctedPlace ms w;
+        within = within w h;
+        flipped = near w h .flipped;
         equal = (zero-equal w h, equal-zero w h);
-        differ = place-differs w h;
         corrects = λ o n. correct-does o w n h (is-word (near w h .codeword));
         encodes = again w h;
         choices = λ m m′ k k′ i j l l′ o o′.
@@ -197,10 +189,15 @@ module _ (t r : ℕ) (ok : Admitted t r) where
         carries = along w h;
       }
 
+pub demand3 : Demand3
+demand3 t r ok w h = at-word t r ok w h
+
 -- it is not empty: opening gives a record that each of the calls can have for its own, and words is not full in it
-pub opened-own : (t r : ℕ) → Admitted t r → (out : List ℕ) → placesOf t ≤ length out → (o : Own t r) × (opened t r ≡ record { refusal = 0; «record» = o .given }) × NotFull o
+pub opened-own : (t r : ℕ) → Admitted t r → (out : List ℕ) → placesOf t ≤ length out
+    → (o : Own t r) × (opened t r ≡ record { refusal = 0; «record» = o .given }) × (o .output ≡ out) × NotFull o
 opened-own t r h out l = (
-  record { given = fresh t r; isT = refl; isR = refl; fit = fresh-fit t r h; output = out; enough = l },
+  record { given = fresh t r; code = record { isT = refl; isR = refl; fit = fresh-fit t r h }; output = out; enough = l },
   opens t r h,
+  refl,
   (λ z. omega arith),
 )

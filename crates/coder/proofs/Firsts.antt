@@ -6,7 +6,7 @@ use mathlib.Core.Bool.{Bool, true, false, true≢false}
 use Prim.Native.Nat.{ℕ}
 use native.Mathlib.Omega.{arith}
 use Rattle.coder.specs.Claims.{NoneApplies, SomeApplies, Given, Refuses}
-use Rattle.coder.specs.Reasons.{Reason, accepted, firstReason}
+use Rattle.coder.specs.Reasons.{Reason, accepted, firstReason, inOrder}
 
 pub first-yes : (x : Reason) (xs : List Reason) → x .applies ≡ true → firstReason (x ∷ xs) ≡ x
 unfolding firstReason
@@ -113,8 +113,9 @@ no-place (x ∷ xs) h = go (no-place xs (h .1)) (x .applies) refl
     go i false y = ap (λ (x : Reason). x .place) (first-no x xs y) ∙ i
 
 -- ---- the two together
-pub by-first : (x : ℕ) (rs : List Reason) → Numbered rs → x ≡ firstReason rs .number → Refuses x rs
-by-first x rs k e = record {
+pub by-first : (x : ℕ) (rs : List Reason) → inOrder rs ≡ true → Numbered rs → x ≡ firstReason rs .number → Refuses x rs
+by-first x rs o k e = record {
+  ordered = o;
   accepts = ((λ h. accepted-none rs k (sym e ∙ h)), (λ h. e ∙ none-accepted rs h));
   refuses = λ n h. ((λ y. first-given rs n h (sym e ∙ y)), (λ g. e ∙ given-first rs n g));
 }

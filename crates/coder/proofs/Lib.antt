@@ -2,7 +2,8 @@
 -- reasons, and Outcomes: the calls on words and places, for the proofs of the calls. Bytes: the first byte above 1. Bounds: how long a word
 -- can be, for callers. Refusals: the theorems of demand 1. Told: the place that is told, and reading. Accepted: that the calls on words
 -- are accepted. Codewords: the codeword test says yes, and reading shows a message, exactly of codewords. Messages and
--- Triples: demand 2 of encoding and reading, of the inverse and the third place. Layouts: the layout theorem, of the call.
+-- Triples: demand 2 of encoding and reading, of combining, the inverse and the third place. Layouts: the layout theorem, of the call.
+-- Counting: demand 2's counts over a run of calls. Moves: a place moved by a codeword. Demand3: demand 3, one theorem.
 pub mod Firsts
 pub mod States
 pub mod Answers

@@ -9,7 +9,7 @@ use Rattle.layout.specs.Parameters.{messageOf}
 use Rattle.words.specs.Words.{Word}
 use Rattle.words.specs.Claims.{EncodingOf}
 use Rattle.words.proofs.Theorem.{length-message-code, code}
-use Rattle.coder.specs.State.{Fit, moduliIn, placesIn, messageIn, CodewordIn, encodedIn}
+use Rattle.coder.specs.State.{Fit, RecordOf, moduliIn, placesIn, messageIn, CodewordIn, encodedIn}
 use Rattle.coder.specs.Calls.{encodeOutput, shown}
 use Rattle.coder.specs.Claims.{Encodes}
 use Rattle.coder.specs.declared.Record.{Record}
@@ -52,12 +52,13 @@ module _ (rec : Record) (m out : List ℕ) (f : Fit rec) (h : Word (messageIn re
       encoding .only c k (ap (λ (n : ℕ). take n c) (length-message-code (rec .t) (rec .r) (f .admitted)) ∙ e)
 
   -- another record of the same code
-  shows : (other : Record) → Fit other → other .t ≡ rec .t → other .r ≡ rec .r → shown other (encodedIn rec m) ≡ m
+  shows : (other : Record) → RecordOf (rec .t) (rec .r) other → shown other (encodedIn rec m) ≡ m
   unfolding messageIn
-  shows other g t r =
-      let c : CodewordIn other (encodedIn rec m) = rw (t, r) codeword in
+  shows other o =
+      let g = o .fit in
+      let c : CodewordIn other (encodedIn rec m) = rw (o .isT, o .isR) codeword in
       reading-accepts other (encodedIn rec m) g (word-of other g (encodedIn rec m) c) (zero-of other g (encodedIn rec m) c) .0
-      ∙ ap (λ (n : ℕ). take (messageOf n) (encodedIn rec m)) t ∙ begins
+      ∙ ap (λ (n : ℕ). take (messageOf n) (encodedIn rec m)) (o .isT) ∙ begins
 
   pub encodes : Encodes rec m out
   encodes =
@@ -67,5 +68,5 @@ module _ (rec : Record) (m out : List ℕ) (f : Fit rec) (h : Word (messageIn re
         begins = ap (take (messageIn rec)) written ∙ take-append-le (messageIn rec) (encodedIn rec m) (drop (placesIn rec) out) shorter ∙ begins;
         only = λ c k e. only c k e ∙ sym (parts .0);
         further = parts .1;
-        shows = λ other g t r. ap (shown other) (parts .0) ∙ shows other g t r;
+        shows = λ other o. ap (shown other) (parts .0) ∙ shows other o;
       }

@@ -86,11 +86,11 @@ word-numbered rec w = ((λ e. omega arith), ((λ e. omega arith), ((λ e. omega 
 pub write-numbered : (rec : Record) (n : ℕ) (w : List ℕ) (room : ℕ) → Numbered (writeReasons rec n w room)
 write-numbered rec n w room = ((λ e. omega arith), ((λ e. omega arith), ((λ e. omega arith), ((λ e. omega arith), ((λ e. omega arith), tt)))))
 
-pub correct-numbered : (rec : Record) (w out : List ℕ) → Numbered (correctReasons rec w out)
+pub correct-numbered : (rec : Record) (w out : List ℕ) → Numbered (correctReasons rec w (length out))
 correct-numbered rec w out =
     numbered-append (writeReasons rec (placesIn rec) w (length out)) (full rec ∷ []) (write-numbered rec (placesIn rec) w (length out)) ((λ e. omega arith), tt)
 
-pub combine-numbered : (rec : Record) (x y out : List ℕ) → Numbered (combineReasons rec x y out)
+pub combine-numbered : (rec : Record) (x y out : List ℕ) → Numbered (combineReasons rec x y (length out))
 combine-numbered rec x y out =
     ((λ e. omega arith), ((λ e. omega arith), ((λ e. omega arith), ((λ e. omega arith), ((λ e. omega arith), ((λ e. omega arith), ((λ e. omega arith), tt)))))))
 
@@ -116,20 +116,20 @@ write-accepted rec n w room e =
     )
 
 -- what an accepted correction knows: the word is one of n bits, and words is not full
-pub correct-accepted : (rec : Record) (w out : List ℕ) → firstReason (correctReasons rec w out) .number ≡ 0
+pub correct-accepted : (rec : Record) (w out : List ℕ) → firstReason (correctReasons rec w (length out)) .number ≡ 0
     → Fit rec × Word (placesIn rec) w × (placesIn rec ≤ length out) × (rec .words ≢ fullCount)
 correct-accepted rec w out e =
-    let h = accepted-none (correctReasons rec w out) (correct-numbered rec w out) e in (
+    let h = accepted-none (correctReasons rec w (length out)) (correct-numbered rec w out) e in (
       true-fit rec (h .1 .0),
       record { places = right-length (placesIn rec) w (h .1 .1 .0); bits = none-bits 0 w (eqb-true (badPlace w) 0 (not-false _ (h .1 .1 .1 .1 .0))) },
       ltb-false (length out) (placesIn rec) (h .1 .1 .1 .0),
       eqb-false (rec .words) fullCount (h .1 .1 .1 .1 .1 .0),
     )
 
-pub combine-accepted : (rec : Record) (x y out : List ℕ) → firstReason (combineReasons rec x y out) .number ≡ 0
+pub combine-accepted : (rec : Record) (x y out : List ℕ) → firstReason (combineReasons rec x y (length out)) .number ≡ 0
     → Fit rec × (length x ≡ placesIn rec) × (length y ≡ placesIn rec) × (placesIn rec ≤ length out)
 combine-accepted rec x y out e =
-    let h = accepted-none (combineReasons rec x y out) (combine-numbered rec x y out) e in (
+    let h = accepted-none (combineReasons rec x y (length out)) (combine-numbered rec x y out) e in (
       true-fit rec (h .1 .0),
       right-length (placesIn rec) x (h .1 .1 .0),
       right-length (placesIn rec) y (h .1 .1 .1 .0),
@@ -322,33 +322,33 @@ module _ (rec : Record) (rs : List Reason) (out : List ℕ) (a : Answer) (e : a 
 module _ (rec : Record) (w out : List ℕ) (a : Answer) where
   pub encode-kept : a ≡ encodeAnswer rec w out → a .refusal ≢ 0 → out ≡ encodeOutput rec w out
   unfolding encodeAnswer encodeOutput
-  encode-kept e h = kept rec (encodeReasons rec w out) out a e (encodedIn rec w) h
+  encode-kept e h = kept rec (encodeReasons rec w (length out)) out a e (encodedIn rec w) h
 
   pub encode-wrote : a ≡ encodeAnswer rec w out → a .refusal ≡ 0 → encodeFor (rec .t) (rec .r) w out ≡ encodeOutput rec w out
   unfolding encodeAnswer encodeOutput
   encode-wrote e h =
-      wrote rec (encodeReasons rec w out) out a e (encodedIn rec w) (encodeFor (rec .t) (rec .r) w out)
+      wrote rec (encodeReasons rec w (length out)) out a e (encodedIn rec w) (encodeFor (rec .t) (rec .r) w out)
       (λ z. let q = write-accepted rec (messageIn rec) w (length out) z in plain-encode rec w out (q .0) (q .1) (q .2)) h
 
   pub invert-kept : a ≡ invertAnswer rec w out → a .refusal ≢ 0 → out ≡ invertOutput rec w out
   unfolding invertAnswer invertOutput
-  invert-kept e h = kept rec (invertReasons rec w out) out a e (inverseIn rec w) h
+  invert-kept e h = kept rec (invertReasons rec w (length out)) out a e (inverseIn rec w) h
 
   pub invert-wrote : a ≡ invertAnswer rec w out → a .refusal ≡ 0 → invertFor (rec .t) (rec .r) w out ≡ invertOutput rec w out
   unfolding invertAnswer invertOutput
   invert-wrote e h =
-      wrote rec (invertReasons rec w out) out a e (inverseIn rec w) (invertFor (rec .t) (rec .r) w out)
+      wrote rec (invertReasons rec w (length out)) out a e (inverseIn rec w) (invertFor (rec .t) (rec .r) w out)
       (λ z. let q = write-accepted rec (placesIn rec) w (length out) z in plain-invert rec w out (q .0) (q .1) (q .2)) h
 
 module _ (rec : Record) (x y out : List ℕ) (a : Answer) where
   pub combine-kept : a ≡ combineAnswer rec x y out → a .refusal ≢ 0 → out ≡ combineOutput rec x y out
   unfolding combineAnswer combineOutput
-  combine-kept e h = kept rec (combineReasons rec x y out) out a e (combineIn rec x y) h
+  combine-kept e h = kept rec (combineReasons rec x y (length out)) out a e (combineIn rec x y) h
 
   pub combine-wrote : a ≡ combineAnswer rec x y out → a .refusal ≡ 0 → combineFor (rec .t) (rec .r) x y out ≡ combineOutput rec x y out
   unfolding combineAnswer combineOutput
   combine-wrote e h =
-      wrote rec (combineReasons rec x y out) out a e (combineIn rec x y) (combineFor (rec .t) (rec .r) x y out)
+      wrote rec (combineReasons rec x y (length out)) out a e (combineIn rec x y) (combineFor (rec .t) (rec .r) x y out)
       (λ z. let q = combine-accepted rec x y out z in plain-combine rec x y out (q .0) (q .1) (q .2) (q .3)) h
 
 -- ---- the counts, by the width of the place
@@ -363,8 +363,8 @@ unfolding counted isBinaryIn isPairedIn
 counted-by rec p k f e x y z a b c = rw (a, b, c, e ∙ plain-width rec p f)
 
 -- ---- correction, by what the check answered
-module _ (rec : Record) (w out : List ℕ) (a : Answer) (e : a ≡ answerOf (firstReason (correctReasons rec w out))) where
-  corrected-by : a .refusal ≡ firstReason (correctReasons rec w out) .number
+module _ (rec : Record) (w out : List ℕ) (a : Answer) (e : a ≡ answerOf (firstReason (correctReasons rec w (length out)))) where
+  corrected-by : a .refusal ≡ firstReason (correctReasons rec w (length out)) .number
   corrected-by = ap (λ (x : Answer). x .refusal) e
 
   pub correct-ready : a .refusal ≡ 0 → Fit rec × Word (placesIn rec) w × (placesIn rec ≤ length out) × (rec .words ≢ fullCount)
@@ -374,9 +374,9 @@ module _ (rec : Record) (w out : List ℕ) (a : Answer) (e : a ≡ answerOf (fir
       → (record { refusal = a .refusal; place = a .place; «record» = rec } ≡ correctAnswer rec w out) × (out ≡ correctOutput rec w out)
   unfolding correctAnswer correctOutput
   correct-refused h =
-      let k : firstReason (correctReasons rec w out) .number ≢ 0 = λ z. h (corrected-by ∙ z) in (
+      let k : firstReason (correctReasons rec w (length out)) .number ≢ 0 = λ z. h (corrected-by ∙ z) in (
         rw (if-refused _ _ _ k, if-refused _ _ _ k, ← corrected-by, ap (λ (x : Answer). x .place) e),
-        kept rec (correctReasons rec w out) out a e (correctedIn rec w) h,
+        kept rec (correctReasons rec w (length out)) out a e (correctedIn rec w) h,
       )
 
   pub correct-changed : a .refusal ≡ 0 → (p : ℕ) → p ≡ faultFor (rec .t) (rec .r) w → (f : List ℕ) → f ≡ flipFor w p out → (next : Record) → next ≡ counted rec p

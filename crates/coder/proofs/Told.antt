@@ -73,27 +73,27 @@ codeword-tells rec w = first-tells (Tells w) (wordReasons rec w) (word-tells rec
 pub encode-tells : (rec : Record) (m out : List ℕ) → TellsPlace (encodeAnswer rec m out .refusal) (encodeAnswer rec m out .place) m
 unfolding encodeAnswer
 encode-tells rec m out =
-    first-tells (Tells m) (encodeReasons rec m out) (write-tells rec (messageIn rec) m (length out) [] (end-tells m))
+    first-tells (Tells m) (encodeReasons rec m (length out)) (write-tells rec (messageIn rec) m (length out) [] (end-tells m))
 
 pub invert-tells : (rec : Record) (w out : List ℕ) → TellsPlace (invertAnswer rec w out .refusal) (invertAnswer rec w out .place) w
 unfolding invertAnswer
 invert-tells rec w out =
-    first-tells (Tells w) (invertReasons rec w out) (write-tells rec (placesIn rec) w (length out) [] (end-tells w))
+    first-tells (Tells w) (invertReasons rec w (length out)) (write-tells rec (placesIn rec) w (length out) [] (end-tells w))
 
 -- the place of a refused correction; that of an accepted one is the place it changes
 pub correct-tells : (rec : Record) (w out : List ℕ) → correctAnswer rec w out .refusal ≢ 0
     → TellsPlace (correctAnswer rec w out .refusal) (correctAnswer rec w out .place) w
 unfolding correctAnswer
 correct-tells rec w out h =
-    let x = firstReason (correctReasons rec w out) in
+    let x = firstReason (correctReasons rec w (length out)) in
     subst (λ (p : ℕ). TellsPlace (x .number) p w) (sym (if-refused _ _ _ h))
-    (first-tells (Tells w) (correctReasons rec w out) (write-tells rec (placesIn rec) w (length out) (full rec ∷ []) ((λ e. other 23 w (λ e. omega arith)), λ e. end-tells w)))
+    (first-tells (Tells w) (correctReasons rec w (length out)) (write-tells rec (placesIn rec) w (length out) (full rec ∷ []) ((λ e. other 23 w (λ e. omega arith)), λ e. end-tells w)))
 
 -- ---- two words
 pub combine-tells : (rec : Record) (x y out : List ℕ) → TellsPlaceOfTwo (combineAnswer rec x y out .refusal) (combineAnswer rec x y out .place) x y
 unfolding combineAnswer
 combine-tells rec x y out =
-    first-tells (λ (n p : ℕ). TellsPlaceOfTwo n p x y) (combineReasons rec x y out) (
+    first-tells (λ (n p : ℕ). TellsPlaceOfTwo n p x y) (combineReasons rec x y (length out)) (
       (λ e. none 21 (λ e. omega arith)),
       λ e. (
         (λ e. none 22 (λ e. omega arith)),

@@ -4,19 +4,35 @@ use mathlib.Core.Logic.{_≢_}
 use mathlib.Core.List.{List, _++_}
 use Prim.Native.Nat.{ℕ, _≤_, _<_}
 use lib.ListN.{length, take, drop}
-use Rattle.words.specs.Words.{Word, zeroWord}
+use Rattle.layout.specs.Parameters.{placesOf, moduliFor}
+use Rattle.layout.specs.Layout.{slots}
+use Rattle.words.specs.Words.{Word, zeroWord, combine}
 use Rattle.group.specs.Group.{zeros, sum}
 use Rattle.group.proofs.Laws.{valid-zeros, zero-sum}
 use Rattle.words.specs.Claims.{GroupOf, ThirdOf}
 use Rattle.words.proofs.Theorem.{length-code, word-code, code}
-use Rattle.coder.specs.State.{Fit, moduliIn, placesIn, CodewordIn, combineIn, inverseIn, thirdIn}
-use Rattle.coder.specs.Calls.{invertOutput, thirdAnswer}
+use Rattle.coder.specs.State.{Fit, RecordOf, moduliIn, placesIn, CodewordIn, combineIn, inverseIn, thirdIn}
+use Rattle.coder.specs.Calls.{combineOutput, invertOutput, thirdAnswer}
 use Rattle.coder.specs.Claims.{Combines, Inverts, Thirds}
 use Rattle.coder.specs.declared.Record.{Record}
 use Rattle.coder.specs.declared.Answer.{Answer}
 use Rattle.coder.proofs.Accepted.{front, combine-accepts, invert-accepts, third-accepts}
 
--- ---- combining
+-- ---- combining, with any record of the code
+combined-front : (t r : ℕ) (other : Record) → RecordOf t r other → (x y o : List ℕ) → Word (placesOf t) x → Word (placesOf t) y → placesOf t ≤ length o
+    → take (placesOf t) (combineOutput other x y o) ≡ combine (slots (moduliFor t r)) x y
+unfolding placesIn combineIn
+combined-front t r other c x y o h k l =
+    let a = c .fit .admitted in
+    let n : placesOf (other .t) ≡ placesOf t = ap placesOf (c .isT) in
+    let h′ : Word (placesOf (other .t)) x = rw n h in
+    let k′ : Word (placesOf (other .t)) y = rw n k in
+    let w = code (other .t) (other .r) a .groups .closed x y (word-code (other .t) (other .r) a h′) (word-code (other .t) (other .r) a k′) in
+    ap (λ (i : ℕ). take i (combineOutput other x y o)) (sym n)
+    ∙ ap (take (placesOf (other .t))) (combine-accepts other x y o (c .fit) h′ k′ (rw n l) .1)
+    ∙ front (placesOf (other .t)) (combineIn other x y) o (w .places ∙ length-code (other .t) (other .r) a) .0
+    ∙ ap₂ (λ (t r : ℕ). combine (slots (moduliFor t r)) x y) (c .isT) (c .isR)
+
 module _ (rec : Record) (x y out : List ℕ) (f : Fit rec) (h : Word (placesIn rec) x) (k : Word (placesIn rec) y) (l : placesIn rec ≤ length out) where
   laws : GroupOf (moduliIn rec)
   laws = code (rec .t) (rec .r) (f .admitted) .groups
@@ -37,9 +53,10 @@ module _ (rec : Record) (x y out : List ℕ) (f : Fit rec) (h : Word (placesIn r
         isZero = laws .adds x y (a .isWord) (b .isWord) ∙ ap₂ (sum ms) (a .isZero) (b .isZero) ∙ zero-sum ms (zeros ms) (valid-zeros ms);
       }
 
-  swapped : combineIn rec y x ≡ combineIn rec x y
-  unfolding combineIn
-  swapped = laws .commutes y x
+  either-order : (other : Record) → RecordOf (rec .t) (rec .r) other → (o : List ℕ) → placesIn rec ≤ length o
+      → take (placesIn rec) (combineOutput other y x o) ≡ combineIn rec x y
+  unfolding placesIn combineIn
+  either-order other c o m = combined-front (rec .t) (rec .r) other c y x o k h m ∙ laws .commutes y x
 
   pub combines : Combines rec x y out
   combines =
@@ -49,7 +66,7 @@ module _ (rec : Record) (x y out : List ℕ) (f : Fit rec) (h : Word (placesIn r
       record {
         accepted = a .0;
         word = rw e combined-word;
-        either = combine-accepts rec y x out f k h l .1 ∙ ap (λ (v : List ℕ). v ++ drop (placesIn rec) out) swapped ∙ sym (a .1);
+        either = λ other c o m. either-order other c o m ∙ sym e;
         codeword = λ c d. rw e (combined-codeword c d);
         further = ap (drop (placesIn rec)) (a .1) ∙ p .1;
       }
@@ -72,12 +89,19 @@ module _ (rec : Record) (w out : List ℕ) (f : Fit rec) (h : Word (placesIn rec
       let p = front (placesIn rec) (inverseIn rec w) out (inverse-word .0 .places) in
       (ap (take (placesIn rec)) written ∙ p .0, ap (drop (placesIn rec)) written ∙ p .1)
 
+  makes-zero : (other : Record) → RecordOf (rec .t) (rec .r) other → (o : List ℕ) → placesIn rec ≤ length o
+      → take (placesIn rec) (combineOutput other w (take (placesIn rec) (invertOutput rec w out)) o) ≡ zeroWord (placesIn rec)
+  unfolding placesIn combineIn
+  makes-zero other c o m =
+      ap (λ (v : List ℕ). take (placesIn rec) (combineOutput other w v o)) (parts .0)
+      ∙ combined-front (rec .t) (rec .r) other c w (inverseIn rec w) o h (inverse-word .0) m ∙ inverse-word .1
+
   pub inverts : Inverts rec w out
   inverts =
       record {
         accepted = invert-accepts rec w out f h l .0;
         word = rw (parts .0) (inverse-word .0);
-        zero = ap (combineIn rec w) (parts .0) ∙ inverse-word .1;
+        makesZero = makes-zero;
         further = parts .1;
       }
 

@@ -94,26 +94,23 @@ writeReasons rec n w room = stateReasons rec ++ (wrongLength n w ∷ shortOutput
 abbrev pub outputOf : Reason → Record → List ℕ → List ℕ → List ℕ
 outputOf x rec new old = ifAccepted (x .number) (new ++ drop (placesIn rec) old) old
 
-abbrev pub encodeReasons : Record → List ℕ → List ℕ → List Reason
-encodeReasons rec m out = writeReasons rec (messageIn rec) m (length out)
+abbrev pub encodeReasons : Record → List ℕ → ℕ → List Reason
+encodeReasons rec m room = writeReasons rec (messageIn rec) m room
 
 unfoldable pub encodeAnswer : Record → List ℕ → List ℕ → Answer
-encodeAnswer rec m out = answerOf (firstReason (encodeReasons rec m out))
+encodeAnswer rec m out = answerOf (firstReason (encodeReasons rec m (length out)))
 
 unfoldable pub encodeOutput : Record → List ℕ → List ℕ → List ℕ
-encodeOutput rec m out = outputOf (firstReason (encodeReasons rec m out)) rec (encodedIn rec m) out
+encodeOutput rec m out = outputOf (firstReason (encodeReasons rec m (length out))) rec (encodedIn rec m) out
 
 -- 23 comes last of all
-abbrev pub correctionReasons : Record → List ℕ → ℕ → List Reason
-correctionReasons rec w room = writeReasons rec (placesIn rec) w room ++ (full rec ∷ [])
-
-abbrev pub correctReasons : Record → List ℕ → List ℕ → List Reason
-correctReasons rec w out = correctionReasons rec w (length out)
+abbrev pub correctReasons : Record → List ℕ → ℕ → List Reason
+correctReasons rec w room = writeReasons rec (placesIn rec) w room ++ (full rec ∷ [])
 
 -- "An accepted call gives number 0, and place 0 unless it is correction or third place"; a refusal gives "the record as handed in"
 unfoldable pub correctAnswer : Record → List ℕ → List ℕ → Corrected
 correctAnswer rec w out =
-    let x = firstReason (correctReasons rec w out) in
+    let x = firstReason (correctReasons rec w (length out)) in
     record {
       refusal = x .number;
       place = ifAccepted (x .number) (correctedPlaceIn rec w) (x .place);
@@ -121,31 +118,28 @@ correctAnswer rec w out =
     }
 
 unfoldable pub correctOutput : Record → List ℕ → List ℕ → List ℕ
-correctOutput rec w out = outputOf (firstReason (correctReasons rec w out)) rec (correctedIn rec w) out
+correctOutput rec w out = outputOf (firstReason (correctReasons rec w (length out))) rec (correctedIn rec w) out
 
 -- "Where two words are lent, a fault of the first comes before the same fault of the second." (document 01)
-abbrev pub twoReasons : Record → List ℕ → List ℕ → ℕ → List Reason
-twoReasons rec x y room =
+abbrev pub combineReasons : Record → List ℕ → List ℕ → ℕ → List Reason
+combineReasons rec x y room =
     let n = placesIn rec in
     stateReasons rec ++ (wrongLength n x ∷ wrongLength n y ∷ shortOutput n room ∷ badByte x ∷ badByte y ∷ [])
 
-abbrev pub combineReasons : Record → List ℕ → List ℕ → List ℕ → List Reason
-combineReasons rec x y out = twoReasons rec x y (length out)
-
 unfoldable pub combineAnswer : Record → List ℕ → List ℕ → List ℕ → Answer
-combineAnswer rec x y out = answerOf (firstReason (combineReasons rec x y out))
+combineAnswer rec x y out = answerOf (firstReason (combineReasons rec x y (length out)))
 
 unfoldable pub combineOutput : Record → List ℕ → List ℕ → List ℕ → List ℕ
-combineOutput rec x y out = outputOf (firstReason (combineReasons rec x y out)) rec (combineIn rec x y) out
+combineOutput rec x y out = outputOf (firstReason (combineReasons rec x y (length out))) rec (combineIn rec x y) out
 
-abbrev pub invertReasons : Record → List ℕ → List ℕ → List Reason
-invertReasons rec w out = writeReasons rec (placesIn rec) w (length out)
+abbrev pub invertReasons : Record → List ℕ → ℕ → List Reason
+invertReasons rec w room = writeReasons rec (placesIn rec) w room
 
 unfoldable pub invertAnswer : Record → List ℕ → List ℕ → Answer
-invertAnswer rec w out = answerOf (firstReason (invertReasons rec w out))
+invertAnswer rec w out = answerOf (firstReason (invertReasons rec w (length out)))
 
 unfoldable pub invertOutput : Record → List ℕ → List ℕ → List ℕ
-invertOutput rec w out = outputOf (firstReason (invertReasons rec w out)) rec (inverseIn rec w) out
+invertOutput rec w out = outputOf (firstReason (invertReasons rec w (length out))) rec (inverseIn rec w) out
 
 -- ---- the third place
 abbrev pub thirdReasons : Record → ℕ → ℕ → List Reason

@@ -1,14 +1,14 @@
--- The words in which the theorems on the calls are stated: on refusals (demand 1: "for those reasons only"), and on encoding and reading
--- (demand 2). Assumes nothing.
+-- The words in which the theorems on the calls are stated: on refusals (demand 1), and on encoding, reading, combining, the inverse and the
+-- third place (demand 2). Assumes nothing.
 use mathlib.Core.Path.{_≡_}
 use mathlib.Core.Logic.{_≢_, _↔_, _⊎_}
 use mathlib.Core.List.{List, [], _∷_, _++_}
 use mathlib.Core.Bool.{true, false}
-use Prim.Native.Nat.{ℕ, _-_, _<_, _≤_}
+use Prim.Native.Nat.{ℕ, zero, suc, _<_, _≤_}
 use lib.ListN.{length, getD, take, drop}
 use Rattle.words.specs.Words.{Bits, Word, zeroWord}
-use Rattle.coder.specs.State.{Fit, placesIn, messageIn, CodewordIn, combineIn, ThreeIn}
-use Rattle.coder.specs.Reasons.{Reason}
+use Rattle.coder.specs.State.{RecordOf, placesIn, messageIn, CodewordIn, ThreeIn}
+use Rattle.coder.specs.Reasons.{Reason, inOrder}
 use Rattle.coder.specs.Calls.{encodeAnswer, encodeOutput, shown, combineAnswer, combineOutput, invertAnswer, invertOutput, thirdAnswer}
 use Rattle.coder.specs.declared.Record.{Record}
 
@@ -32,15 +32,17 @@ pub record Given (rs : List Reason) (n : ℕ) : Type 0 where
   pub applies : reason .applies ≡ true
   pub number : reason .number ≡ n
 
--- what a call's refusal x has to do with its reasons rs: accepted exactly where none applies, and refused with n exactly where n is the
--- number of the first that does
+-- "refused by the numbers and in the order of document 01, for those reasons only": what a call's refusal x has to do with its reasons rs. They
+-- stand in the order; the call is accepted exactly where none applies, and refused with n exactly where n is the number of the first that does
 pub record Refuses (x : ℕ) (rs : List Reason) : Type 0 where
+  pub ordered : inOrder rs ≡ true
   pub accepts : (x ≡ 0) ↔ NoneApplies rs
   pub refuses : (n : ℕ) → n ≢ 0 → (x ≡ n) ↔ Given rs n
 
 -- the byte of a place; "Places count from 1"
 abbrev pub byteAt : List ℕ → ℕ → ℕ
-byteAt w p = getD w (p - 1) 0
+byteAt w zero = 0
+byteAt w (suc i) = getD w i 0
 
 -- "the lowest such place": p is a place of w, its byte is above 1, and no earlier one is
 pub record Lowest (w : List ℕ) (p : ℕ) : Type 0 where
@@ -49,7 +51,8 @@ pub record Lowest (w : List ℕ) (p : ℕ) : Type 0 where
   pub above : 1 < byteAt w p
   pub before : (q : ℕ) → 1 ≤ q → q < p → byteAt w q ≤ 1
 
--- "place 0 except for 4": what the place p that a call tells has to do with its refusal x and the word w that it read
+-- "place 0 except for 4": what the place p that a call tells, in correction and third place a refused one, has to do with its refusal x and
+-- the word w that it read
 pub record TellsPlace (x p : ℕ) (w : List ℕ) : Type 0 where
   pub none : x ≢ 4 → p ≡ 0
   pub lowest : x ≡ 4 → Lowest w p
@@ -67,22 +70,25 @@ pub record Encodes (rec : Record) (m out : List ℕ) : Type 0 where
   pub begins : take (messageIn rec) (encodeOutput rec m out) ≡ m
   pub only : (c : List ℕ) → CodewordIn rec c → take (messageIn rec) c ≡ m → c ≡ take (placesIn rec) (encodeOutput rec m out)
   pub further : drop (placesIn rec) (encodeOutput rec m out) ≡ drop (placesIn rec) out
-  pub shows : (other : Record) → Fit other → other .t ≡ rec .t → other .r ≡ rec .r
-      → shown other (take (placesIn rec) (encodeOutput rec m out)) ≡ m
+  pub shows : (other : Record) → RecordOf (rec .t) (rec .r) other → shown other (take (placesIn rec) (encodeOutput rec m out)) ≡ m
 
--- what combining wrote into the first n bytes of an output: a word, the same in either order, and a codeword where both are
+-- what combining wrote into the first n bytes of an output: a word, the same in either order with any record of the code, and a codeword
+-- where both are
 pub record Combines (rec : Record) (x y out : List ℕ) : Type 0 where
   pub accepted : combineAnswer rec x y out ≡ record { refusal = 0; place = 0 }
   pub word : Word (placesIn rec) (take (placesIn rec) (combineOutput rec x y out))
-  pub either : combineOutput rec y x out ≡ combineOutput rec x y out
+  pub either : (other : Record) → RecordOf (rec .t) (rec .r) other → (o : List ℕ) → placesIn rec ≤ length o
+      → take (placesIn rec) (combineOutput other y x o) ≡ take (placesIn rec) (combineOutput rec x y out)
   pub codeword : CodewordIn rec x → CodewordIn rec y → CodewordIn rec (take (placesIn rec) (combineOutput rec x y out))
   pub further : drop (placesIn rec) (combineOutput rec x y out) ≡ drop (placesIn rec) out
 
--- what the inverse call wrote into the first n bytes of an output: the word that makes the zero word with w
+-- what the inverse call wrote into the first n bytes of an output: the word that makes the zero word when w is combined with it, with any
+-- record of the code
 pub record Inverts (rec : Record) (w out : List ℕ) : Type 0 where
   pub accepted : invertAnswer rec w out ≡ record { refusal = 0; place = 0 }
   pub word : Word (placesIn rec) (take (placesIn rec) (invertOutput rec w out))
-  pub zero : combineIn rec w (take (placesIn rec) (invertOutput rec w out)) ≡ zeroWord (placesIn rec)
+  pub makesZero : (other : Record) → RecordOf (rec .t) (rec .r) other → (o : List ℕ) → placesIn rec ≤ length o
+      → take (placesIn rec) (combineOutput other w (take (placesIn rec) (invertOutput rec w out)) o) ≡ zeroWord (placesIn rec)
   pub further : drop (placesIn rec) (invertOutput rec w out) ≡ drop (placesIn rec) out
 
 -- what the third place call told of two places: the one place that makes a codeword of weight 3 with them

@@ -1,22 +1,23 @@
 -- Demand 2: "the counts in a record that is handed on unaltered from call to call equal what the accepted corrections since its opening came
--- to". A run of calls, what its corrections came to, and the counts. The theorem is `counts` (proofs/Counting). Assumes nothing.
+-- to". A run of calls, what its corrections came to, and the counts. The theorems are `counts` and `meant` (proofs/Counting): `Counts` and
+-- `AllMeant` hold of every run from an opening that is accepted. Assumes nothing.
 use mathlib.Core.Path.{_≡_}
 use mathlib.Core.Logic.{_≢_, _↔_, _⊎_}
 use mathlib.Core.Bool.{Bool, true, _&&_}
 use mathlib.Core.List.{List, [], _∷_}
-use Prim.Native.Nat.{ℕ, _+_, _≤_}
+use Prim.Native.Nat.{ℕ, _+_, _-_, _<_, _≤_}
 use lib.Dec.{eqb}
 use Rattle.layout.specs.Gate.{hit}
-use Rattle.layout.specs.Parameters.{placesOf, moduliFor}
+use Rattle.layout.specs.Parameters.{placesOf, messageOf, binaryOf, moduliFor}
 use Rattle.layout.specs.Layout.{slots}
 use Rattle.words.specs.Words.{Word, flip}
 use Rattle.words.specs.Syndrome.{Codeword}
 use Rattle.words.specs.Halves.{isBinary, isPaired}
-use Rattle.coder.specs.State.{fullCount}
+use Rattle.coder.specs.State.{Fit, fullCount}
 use Rattle.coder.specs.Calls.{correctAnswer}
 use Rattle.coder.specs.declared.Record.{Record}
 
--- the public calls, with any arguments beside the record; an output is given by what it holds before the call
+-- the public calls other than correction, with any arguments beside the record; an output is given by what it holds before the call
 pub data Other : Type 0 where
   opening thirdPlace : ℕ → ℕ → Other
   layoutAt : ℕ → Other
@@ -29,7 +30,7 @@ pub data Call : Type 0 where
   correcting : List ℕ → List ℕ → Call
   other : Other → Call
 
--- "Other calls leave the record alone.": they return none (another opening returns another record)
+-- "Other calls leave the record alone.": by their signatures they take it by value and return none (another opening returns another record)
 abbrev pub after : Record → Call → Record
 after rec (correcting w out) = correctAnswer rec w out .«record»
 after rec (other x) = rec
@@ -54,27 +55,32 @@ outcomes rec (correcting w out ∷ xs) = outcome rec w out ∷ outcomes (after r
 outcomes rec (other x ∷ xs) = outcomes rec xs
 
 -- how many corrections were accepted and told a place of the kind
-unfoldable pub accepted : (ℕ → Bool) → List Outcome → ℕ
-accepted kind [] = 0
-accepted kind (x ∷ xs) = hit (eqb (x .refusal) 0 && kind (x .place)) + accepted kind xs
+unfoldable pub howMany : (ℕ → Bool) → List Outcome → ℕ
+howMany kind [] = 0
+howMany kind (x ∷ xs) = hit (eqb (x .refusal) 0 && kind (x .place)) + howMany kind xs
 
 -- the counts of a record are those of the corrections that were accepted: all; those of place 0; of a binary place; of a place of a pair
 pub record Counts (t r : ℕ) (rec : Record) (xs : List Outcome) : Type 0 where
   pub sameT : rec .t ≡ t
   pub sameR : rec .r ≡ r
-  pub words : rec .words ≡ accepted (λ p. true) xs
-  pub clean : rec .clean ≡ accepted (λ p. eqb p 0) xs
-  pub binary : rec .«corrected_binary» ≡ accepted (isBinary (slots (moduliFor t r))) xs
-  pub pairs : rec .«corrected_pairs» ≡ accepted (isPaired (slots (moduliFor t r))) xs
+  pub words : rec .words ≡ howMany (λ p. true) xs
+  pub clean : rec .clean ≡ howMany (λ p. eqb p 0) xs
+  pub binary : rec .«corrected_binary» ≡ howMany (isBinary (slots (moduliFor t r))) xs
+  pub pairs : rec .«corrected_pairs» ≡ howMany (isPaired (slots (moduliFor t r))) xs
+  -- "Counts stop at 4,294,967,295": then corrections are refused, and not counted
   pub most : rec .words ≤ fullCount
+  -- "Each accepted correction adds one to words and to one of the other three": so the record stays open and fit
+  pub fit : Fit rec
 
 -- what an accepted correction's place says of the word: place 0 that it was a codeword, a binary place or one of a pair that it is a codeword
--- with this place flipped; and there is no other kind
+-- with this place flipped. There is no other kind, and the binary places are those of part 1, the first k − a, and of part 3, a after the message
 pub record Meant (t r : ℕ) (x : Outcome) : Type 0 where
   pub isWord : Word (placesOf t) (x .word)
   pub clean : (x .place ≡ 0) ↔ Codeword (moduliFor t r) (x .word)
   pub flipped : Codeword (moduliFor t r) (flip (x .place) (x .word))
   pub kinds : (x .place ≡ 0) ⊎ (isBinary (slots (moduliFor t r)) (x .place) ≡ true) ⊎ (isPaired (slots (moduliFor t r)) (x .place) ≡ true)
+  pub binary : (isBinary (slots (moduliFor t r)) (x .place) ≡ true)
+      ↔ (((1 ≤ x .place) × (x .place ≤ placesOf r - binaryOf t r)) ⊎ ((messageOf t < x .place) × (x .place ≤ messageOf t + binaryOf t r)))
 
 abbrev pub AllMeant : ℕ → ℕ → List Outcome → Type 0
 AllMeant t r [] = Unit {0}

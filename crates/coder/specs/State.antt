@@ -1,4 +1,4 @@
--- Document 01, "The record". Lengths and the layout are those of a record, so that callers need not know what fixes them.
+-- Document 01, "The record": the struct `Record` of src/lib.rt, whose six fields are numbers. Lengths and the layout are those of a record, so that callers need not know what fixes them.
 -- Assumes nothing.
 use mathlib.Core.Path.{_≡_}
 use mathlib.Core.Bool.{Bool, _&&_, _||_, not}
@@ -31,14 +31,20 @@ isUnfit rec =
     not (admits (rec .t) (rec .r))
     || (eqb (rec .r) 0 || not (eqb (rec .words) (rec .clean + rec .«corrected_binary» + rec .«corrected_pairs»)))
 
--- "A record is open and fit where neither 21 nor 22 below applies to it."
+-- "A record is open and fit where neither 21 nor 22 below applies to it"
 abbrev pub isFit : Record → Bool
 isFit rec = not (isClosed rec) && not (isUnfit rec)
 
--- the same as a statement: t and r are admitted, and the counts add up (States, in proofs/, shows that the two agree)
+-- the same as a statement: t and r are admitted, and the counts add up (`fit-true` and `true-fit` in proofs/States)
 pub record Fit (rec : Record) : Type 0 where
   pub admitted : Admitted (rec .t) (rec .r)
   pub sums : rec .words ≡ rec .clean + rec .«corrected_binary» + rec .«corrected_pairs»
+
+-- an open and fit record of the code with t and r
+pub record RecordOf (t r : ℕ) (rec : Record) : Type 0 where
+  pub isT : rec .t ≡ t
+  pub isR : rec .r ≡ r
+  pub fit : Fit rec
 
 -- the moduli of a record's code
 abbrev pub moduliIn : Record → List Modulus

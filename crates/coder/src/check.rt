@@ -7,7 +7,7 @@ ghost use Prim.Native.Nat.{_<_, _≤_};
 ghost use lib.Dec.{eqb, ltb};
 ghost use lib.ListN.{length};
 ghost use Rattle.coder.specs.Reasons.{firstReason, wrongLength, shortOutput, badByte, badPlace};
-ghost use Rattle.coder.specs.Calls.{answerOf, stateReasons, wordReasons, correctionReasons, twoReasons, thirdReasons};
+ghost use Rattle.coder.specs.Calls.{answerOf, stateReasons, wordReasons, correctReasons, combineReasons, thirdReasons};
 use crate::Answer;
 use crate::Record;
 use crate::fit;
@@ -59,7 +59,7 @@ pub(crate) fn word(record: Record, word: &[u8]) -> Answer
 
 // The same as for an output, and 23 last of all.
 pub(crate) fn correction(record: Record, word: &[u8], room: usize) -> Answer
-    ensures { λ x. ⌜ x ≡ answerOf (firstReason (correctionReasons «record» (now (word .entry)) room)) ⌝ }
+    ensures { λ x. ⌜ x ≡ answerOf (firstReason (correctReasons «record» (now (word .entry)) room)) ⌝ }
 {
     let s = fit::lengths(record);
     let n = s.places;
@@ -79,7 +79,7 @@ pub(crate) fn correction(record: Record, word: &[u8], room: usize) -> Answer
 
 // 21, 22, 2, 3 and 4 of two words: a fault of the first before the same fault of the second.
 pub(crate) fn two(record: Record, first: &[u8], second: &[u8], room: usize) -> Answer
-    ensures { λ x. ⌜ x ≡ answerOf (firstReason (twoReasons «record» (now (first .entry)) (now (second .entry)) room)) ⌝ }
+    ensures { λ x. ⌜ x ≡ answerOf (firstReason (combineReasons «record» (now (first .entry)) (now (second .entry)) room)) ⌝ }
 {
     let x = fit::state(record);
     if x != 0 {

@@ -1,7 +1,8 @@
 // The calls of document 01 on a record. Every input is answered. A refusal is a number; 0 says that the
 // call is accepted. What each call answers is defined in specs/Calls.antt; proofs/Refusals.antt has
 // the theorems on refusals. Whether a record is open and fit is found in fit.rt, what is wrong with
-// a word, an output or a place in check.rt; the work on plain words is done by crate words.
+// a word, an output or a place in check.rt; count.rt counts; the work on plain words is done by crate
+// words. Demand 3, on encode, correct and combine, is proofs/Demand3.antt.
 mod check;
 mod count;
 mod fit;
@@ -13,8 +14,8 @@ ghost use Rattle.coder.specs.Calls.{inForce, refusedElement, opened, ele
 ghost use Rattle.coder.specs.Calls.{encodeAnswer, encodeOutput, correctAnswer, correctOutput, combineAnswer, combineOutput, invertAnswer, invertOutput, thirdAnswer};
 ghost use Rattle.words.specs.Calls.{faultFor};
 
-// Which code it is, and how many words were corrected. The last two counts are what
-// document 01 calls "mended binary" and "mended in pairs".
+// Which code it is, how many corrections were accepted, and what they came to. The last two counts are
+// what document 01 calls "mended binary" and "mended in pairs".
 pub struct Record {
     pub t: u32,
     pub r: u32,

@@ -1,5 +1,5 @@
--- What the public functions of this crate answer, for any t and r and any bytes: they do nothing where t and r are not admitted or a word,
--- a message or an output is too short. Assumes nothing.
+-- What the public functions of this crate answer, for any t and r and any bytes: they do nothing where t and r are not admitted, a message is
+-- not of its length, or a word or an output is too short. Assumes nothing.
 use mathlib.Core.Bool.{Bool, _&&_, not}
 use mathlib.Core.Logic.{_≢_}
 use mathlib.Core.List.{List, _++_}

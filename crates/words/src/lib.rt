@@ -1,6 +1,7 @@
 // Words of a code, with no record: what is done to them place by place. Every input is answered; nothing
-// is done where t and r are not admitted or a word or an output is too short. What each function
-// answers is defined in specs/Calls.antt; the theorems on words are in proofs/Theorem.antt.
+// is done where t and r are not admitted, a message is not of its length, or a word or an output is too
+// short. What each function answers is defined in specs/Calls.antt; the theorems on words are in
+// proofs/Theorem.antt.
 mod check;
 mod halves;
 mod ones;
