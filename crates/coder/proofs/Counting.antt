@@ -21,7 +21,7 @@ use Rattle.words.proofs.Theorem.{length-code, code}
 use Rattle.words.proofs.Widths.{width-kinds, binary-parts}
 use Rattle.coder.specs.State.{Fit, fresh, moduliIn, placesIn, correctedPlaceIn, isBinaryIn, isPairedIn, fullCount, counted}
 use Rattle.coder.specs.Calls.{inForce, opened, correctAnswer}
-use Rattle.coder.specs.Runs.{Call, correcting, other, run, Outcome, outcome, outcomes, howMany, Counts, Meant, AllMeant}
+use Rattle.coder.specs.Runs.{Call, correcting, other, run, outcome, outcomes, howMany, Counts, Meant, AllMeant}
 use Rattle.coder.specs.declared.Record.{Record}
 use Rattle.coder.proofs.Outcomes.{correct-accepted}
 use Rattle.coder.proofs.Refusals.{correct-untouched, opened-fresh, opened-fit}

@@ -1,9 +1,7 @@
 -- Demand 3, one theorem on the calls: `demand3`. Its statement is in specs/Demand3. Assumes nothing.
 use mathlib.Core.Path.{_≡_, refl, sym, ap, ap₂, subst, _∙_}
-use mathlib.Core.Logic.{_≢_, _↔_}
-use mathlib.Core.Bool.{Bool, true, false}
 use mathlib.Core.List.{List, _++_}
-use Prim.Native.Nat.{ℕ, zero, suc, _≤_}
+use Prim.Native.Nat.{ℕ, _≤_}
 use native.Mathlib.Omega.{arith}
 use lib.ListN.{length, take, drop}
 use lib.Seq.{take-append-seam}
@@ -21,7 +19,6 @@ use Rattle.words.proofs.Theorem.{length-code, word-code, code}
 use Rattle.coder.specs.State.{fresh, moduliIn, placesIn, messageIn, encodedIn, correctedIn, correctedPlaceIn, combineIn}
 use Rattle.coder.specs.Calls.{opened, encodeOutput, correctOutput, combineOutput}
 use Rattle.coder.specs.Demand3.{Own, NotFull, AcceptsMessage, encodedBy, AcceptsTwo, combinedBy, AcceptsWord, correctedBy, placeBy, MovedBy, AtWord, Demand3}
-use Rattle.coder.specs.declared.Record.{Record}
 use Rattle.coder.specs.declared.Answer.{Answer}
 use Rattle.coder.specs.declared.Corrected.{Corrected}
 use Rattle.coder.proofs.Refusals.{opens, fresh-fit}

@@ -4,7 +4,6 @@ use mathlib.Core.Logic.{_≢_, inl, inr}
 use mathlib.Core.List.{List, [], _∷_, _++_}
 use mathlib.Core.Bool.{Bool, true, false, true≢false}
 use Prim.Native.Nat.{ℕ}
-use native.Mathlib.Omega.{arith}
 use Rattle.coder.specs.Claims.{NoneApplies, SomeApplies, Given, Refuses}
 use Rattle.coder.specs.Reasons.{Reason, accepted, firstReason, inOrder}
 

@@ -2,7 +2,7 @@
 -- to". A run of calls, what its corrections came to, and the counts. The theorems are `counts` and `meant` (proofs/Counting): `Counts` and
 -- `AllMeant` hold of every run from an opening that is accepted. Assumes nothing.
 use mathlib.Core.Path.{_≡_}
-use mathlib.Core.Logic.{_≢_, _↔_, _⊎_}
+use mathlib.Core.Logic.{_↔_, _⊎_}
 use mathlib.Core.Bool.{Bool, true, _&&_}
 use mathlib.Core.List.{List, [], _∷_}
 use Prim.Native.Nat.{ℕ, _+_, _-_, _<_, _≤_}

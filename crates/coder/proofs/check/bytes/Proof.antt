@@ -1,7 +1,7 @@
 -- `coder::check::bytes` meets its contract: the first word's byte before the second's. Assumes nothing.
 use borrow.Author.Needs.{needs}
 use mathlib.Core.Path.{sym, ap, _∙_}
-use mathlib.Core.List.{[], _∷_}
+use mathlib.Core.List.{[]}
 use Rattle.coder.specs.Reasons.{badByte}
 use Rattle.coder.specs.Calls.{answerOf}
 use Rattle.coder.proofs.Firsts.{first-no, first-end}

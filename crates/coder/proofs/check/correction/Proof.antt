@@ -3,7 +3,6 @@ use borrow.Author.Needs.{needs}
 use borrow.Author.Tests.{eq-eqb, ne-eqb}
 use mathlib.Core.Path.{_≡_, sym, ap, _∙_}
 use mathlib.Core.List.{List, [], _∷_}
-use Prim.Native.Nat.{ℕ}
 use Rattle.coder.specs.State.{placesIn, fullCount}
 use Rattle.coder.specs.Reasons.{Reason, firstReason, wrongLength, shortOutput, badByte, full}
 use Rattle.coder.specs.Calls.{answerOf, writeReasons}

@@ -1,6 +1,5 @@
 -- `coder::count::counted` meets its contract: each count is at most their sum, which is not full. Assumes nothing.
 use borrow.Author.Needs.{needs}
-use native.Mathlib.Omega.{arith}
 use Rattle.coder.proofs.Outcomes.{counted-by}
 use Rattle.coder.proofs.count.counted.Statement.{statement}
 use Rattle.coder.proofs.count.counted.Tie as tie
