@@ -1,7 +1,10 @@
 // Document 01's executed cases: one line each, the input, a colon, and the answer.
+mod combinations;
+mod corrections;
 mod layouts;
+mod lines;
+mod on_words;
 mod print;
-mod words;
 
 fn main() {
     layouts::openings();
@@ -10,14 +13,27 @@ fn main() {
     layouts::closed_and_unfit();
     layouts::orders();
     layouts::all_lengths();
-    words::example();
-    words::encodings();
-    words::outputs();
-    words::inverses();
-    words::syndromes();
-    words::codewords();
-    words::messages();
-    words::thirds();
-    words::states();
-    words::orders();
+    on_words::example();
+    on_words::encodings();
+    on_words::outputs();
+    on_words::inverses();
+    on_words::syndromes();
+    on_words::codewords();
+    on_words::messages();
+    on_words::thirds();
+    on_words::states();
+    on_words::orders();
+    corrections::corrections();
+    corrections::other_codes();
+    corrections::outputs();
+    corrections::run();
+    corrections::ends();
+    corrections::orders();
+    combinations::combinations();
+    combinations::other_codes();
+    combinations::outputs();
+    combinations::two_words();
+    combinations::states();
+    combinations::orders();
+    combinations::along();
 }

@@ -1,8 +1,8 @@
--- `cases::words::bytes` ends. Assumes nothing.
+-- `cases::lines::bytes` ends. Assumes nothing.
 use borrow.Author.Needs.{needs}
 use Prim.Native.Nat.{_-_, _≤_}
-use Rattle.cases.proofs.words.bytes.Statement.{statement}
-use Rattle.cases.proofs.words.bytes.Tie as tie
+use Rattle.cases.proofs.lines.bytes.Statement.{statement}
+use Rattle.cases.proofs.lines.bytes.Tie as tie
 
 abbrev Inv-loop : tie.InvT-loop
 Inv-loop word b₀ i₀ b i = i ≤ 32

@@ -1,15 +1,9 @@
--- `cases::words::write_line` is safe: the output lies within the buffer. Assumes nothing.
+-- `cases::lines::write_line` is safe: the output lies within the buffer. Assumes nothing.
 use borrow.Author.Needs.{needs}
 use mathlib.Core.Path.{sym}
 use lib.Seq.{length-take-le}
-use Rattle.cases.proofs.words.write_line.Statement.{statement}
-use Rattle.cases.proofs.words.write_line.Tie as tie
-
-record-requires : tie.Need-record-requires
-record-requires c κs = search needs
-
-digits-requires : tie.Need-digits-requires
-digits-requires c κs = search needs
+use Rattle.cases.proofs.lines.write_line.Statement.{statement}
+use Rattle.cases.proofs.lines.write_line.Tie as tie
 
 number-requires : tie.Need-number-requires
 number-requires c κs = search needs
@@ -23,25 +17,19 @@ slice-aggregate-write c = sym (length-take-le _ _ (c .before .if1 .taken))
 write-requires : tie.Need-write-requires
 write-requires c κs = search needs
 
-slice-aggregate-text : tie.Need-slice-aggregate-text
-slice-aggregate-text c = search needs
-
-text-requires : tie.Need-text-requires
-text-requires c κs = search needs
-
 returns : tie.Need-returns
 returns c = search needs
+
+returns-2 : tie.Need-returns-2
+returns-2 c = search needs
 
 pub write-line-spec : {M : Type 1} → statement M
 write-line-spec =
     tie.close
     (tie.spec
-    record-requires
-    digits-requires
     number-requires
     array-borrow-prefix-out
     slice-aggregate-write
     write-requires
-    slice-aggregate-text
-    text-requires
-    returns)
+    returns
+    returns-2)

@@ -1,136 +1,16 @@
-// The calls on words. A word is written as its digits; an output is as long as the number after the
-// word says, and holds nines before the call.
+// Lists of calls on one word, and of third places.
+use crate::lines::codeword;
+use crate::lines::encode;
+use crate::lines::invert;
+use crate::lines::read;
+use crate::lines::syndrome;
+use crate::lines::third;
 use crate::print::digits;
 use crate::print::made;
 use crate::print::number;
 use crate::print::record;
 use crate::print::text;
 use coder::Record;
-
-// Room for every word below.
-type Buffer = [u8; 32];
-
-// The bytes of a word that is written in digits.
-fn bytes(word: &[u8]) -> Buffer {
-    let mut b = [0u8; 32];
-    let mut i: usize = 0;
-    while i < 32 {
-        if i < word.len() {
-            b[i] = word[i] % 48;
-        }
-        i += 1;
-    }
-    b
-}
-
-fn answer(a: coder::Answer) {
-    text(b":");
-    number(a.refusal);
-    number(a.place);
-}
-
-// The first n bytes.
-fn front(w: &[u8], n: usize) -> &[u8] {
-    if n <= w.len() { &w[..n] } else { w }
-}
-
-// encode record message room: refusal place output
-fn encode(code: Record, message: &[u8], room: u32) {
-    text(b"encode");
-    write_line(false, code, front(&bytes(message), message.len()), room);
-}
-
-// invert record word room: refusal place output
-fn invert(code: Record, word: &[u8], room: u32) {
-    text(b"invert");
-    write_line(true, code, front(&bytes(word), word.len()), room);
-}
-
-fn write_line(inverse: bool, code: Record, word: &[u8], room: u32) {
-    record(code);
-    digits(word);
-    number(room);
-    let mut out = [9u8; 32];
-    let n = room as usize;
-    if n <= out.len() {
-        write(inverse, code, word, &mut out[..n]);
-    }
-    text(b"\n");
-}
-
-fn write(inverse: bool, code: Record, word: &[u8], out: &mut [u8]) {
-    answer(called(inverse, code, word, out));
-    digits(out);
-}
-
-fn called(inverse: bool, code: Record, word: &[u8], out: &mut [u8]) -> coder::Answer {
-    if inverse {
-        coder::invert(code, word, out)
-    } else {
-        coder::encode(code, word, out)
-    }
-}
-
-// syndrome record word: refusal place element
-fn syndrome(code: Record, word: &[u8]) {
-    syndrome_line(code, front(&bytes(word), word.len()));
-}
-
-fn syndrome_line(code: Record, word: &[u8]) {
-    text(b"syndrome");
-    record(code);
-    digits(word);
-    text(b":");
-    let a = coder::syndrome(code, word);
-    number(a.refusal);
-    number(a.place);
-    number(a.element);
-    text(b"\n");
-}
-
-// codeword record word: refusal place answer
-fn codeword(code: Record, word: &[u8]) {
-    codeword_line(code, front(&bytes(word), word.len()));
-}
-
-fn codeword_line(code: Record, word: &[u8]) {
-    text(b"codeword");
-    record(code);
-    digits(word);
-    text(b":");
-    let a = coder::is_codeword(code, word);
-    number(a.refusal);
-    number(a.place);
-    if a.yes {
-        text(b" yes\n");
-    } else {
-        text(b" no\n");
-    }
-}
-
-// read record word: what is shown
-fn read(code: Record, word: &[u8]) {
-    read_line(code, front(&bytes(word), word.len()));
-}
-
-fn read_line(code: Record, word: &[u8]) {
-    text(b"read");
-    record(code);
-    digits(word);
-    text(b":");
-    digits(coder::read_message(code, word));
-    text(b"\n");
-}
-
-// third record i j: refusal place
-fn third(code: Record, i: u32, j: u32) {
-    text(b"third");
-    record(code);
-    number(i);
-    number(j);
-    answer(coder::third_place(code, i, j));
-    text(b"\n");
-}
 
 // The README's example.
 pub(crate) fn example() {
@@ -141,6 +21,14 @@ pub(crate) fn example() {
     let message = coder::read_message(code, &word);
     digits(&word);
     digits(message);
+    text(b"\n");
+    let mut out = [0u8; 7];
+    let a = coder::correct(code, &[0, 0, 1, 1, 1, 1, 0], &mut out);
+    let b = coder::correct(a.record, &out, &mut word);
+    digits(&out);
+    number(a.place);
+    number(b.place);
+    record(b.record);
     text(b"\n");
 }
 

@@ -1,9 +1,9 @@
--- `cases::words::front` is safe: the part lies within the slice. Assumes nothing.
+-- `cases::lines::front` is safe: the part lies within the slice. Assumes nothing.
 use borrow.Author.Needs.{needs}
 use mathlib.Core.Path.{sym}
 use lib.Seq.{length-take-le}
-use Rattle.cases.proofs.words.front.Statement.{statement}
-use Rattle.cases.proofs.words.front.Tie as tie
+use Rattle.cases.proofs.lines.front.Statement.{statement}
+use Rattle.cases.proofs.lines.front.Tie as tie
 
 slice-aggregate-result : tie.Need-slice-aggregate-result
 slice-aggregate-result c = sym (length-take-le (c .before .before .args .n) (c .before .before .args .w .now) (c .before .if1 .taken))
