@@ -12,6 +12,9 @@ use crate::Answer;
 use crate::Record;
 use crate::fit;
 
+// The largest count.
+const FULL: u32 = 4294967295;
+
 // 21, 22, 2, 3 and 4: n bytes are asked of the word, and the output has `room` bytes of which `need`
 // are needed.
 pub(crate) fn output(record: Record, n: u32, word: &[u8], need: u32, room: usize) -> Answer
@@ -68,7 +71,7 @@ pub(crate) fn correction(record: Record, word: &[u8], room: usize) -> Answer
     if a.refusal != 0 {
         return a;
     }
-    if all == 4294967295 {
+    if all == FULL {
         return Answer {
             refusal: 23,
             place: 0,

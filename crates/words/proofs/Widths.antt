@@ -11,7 +11,7 @@ use native.Mathlib.Decide.{decLt}
 use native.Mathlib.Omega.{arith}
 use borrow.Author.Tests.{eqb-true, eq-eqb}
 use lib.Dec.{leb}
-use lib.ListN.{length, getD}
+use lib.ListN.{length}
 use Rattle.group.specs.Group.{Modulus, moduli}
 use Rattle.layout.specs.Parameters.{Admitted, admits, placesOf, messageOf, binaryOf, quaternaryOf, moduliFor}
 use Rattle.layout.specs.Layout.{Slot, single, pair, slots, places}
@@ -22,10 +22,9 @@ use Rattle.layout.proofs.Sizes.{length-places}
 use Rattle.layout.proofs.Parameters.{admits-admitted, admitted-admits, below-power, known-for, known, moduli-known, length-for}
 use Rattle.words.specs.Choice.{pick}
 use Rattle.words.specs.Syndrome.{lengthOf}
-use Rattle.words.specs.Halves.{widthAt, width, isBinary, isPaired, otherAt, otherHalf, moved}
+use Rattle.words.specs.Halves.{widthAt, width, isBinary, isPaired, otherAt, otherHalf}
 use Rattle.words.specs.Calls.{widthFor}
 use Rattle.words.proofs.OtherHalf.{swapped, other-one, other-two, other-three, other-four}
-use Rattle.words.proofs.TwoOnes.{stays, either}
 use Rattle.words.proofs.Theorem.{length-code}
 use Rattle.words.proofs.Shapes.{place-there, place-beyond, located}
 
@@ -85,20 +84,6 @@ width-beyond ms (pair z ∷ sl) zero h = absurd (omega arith)
 width-beyond ms (pair z ∷ sl) (suc zero) h = absurd (omega arith)
 width-beyond ms (pair z ∷ sl) (suc (suc i)) h = width-beyond ms sl i (omega arith)
 
--- both halves of a pair have its width, and so has a moved place
-other-width : (sl : List Slot) (i : ℕ) → widthAt sl (otherAt sl i) ≡ widthAt sl i
-unfolding widthAt otherAt
-other-width [] i = refl
-other-width (single e ∷ sl) zero = refl
-other-width (single e ∷ sl) (suc i) = other-width sl i
-other-width (pair z ∷ sl) zero = refl
-other-width (pair z ∷ sl) (suc zero) = refl
-other-width (pair z ∷ sl) (suc (suc i)) = other-width sl i
-
-pub moved-width : (sl : List Slot) (w : List ℕ) (p : ℕ) → width sl (moved sl w p) ≡ width sl p
-moved-width sl w zero = refl
-moved-width sl w (suc i) = ⊎-elim (ap (widthAt sl)) (λ e. ap (widthAt sl) e ∙ other-width sl i) (either sl w i)
-
 -- ---- the places of a layout
 module _ (ms : List Modulus) where
   place-kind : (i : ℕ) → suc i ≤ lengthOf ms → Kind (widthAt (slots ms) i) (otherAt (slots ms) i) i
@@ -122,13 +107,6 @@ module _ (ms : List Modulus) where
     (λ t e. two-paired (place-kind i h) (eqb-true (widthAt (slots ms) i) 2 t) (suc-inj e)),
     λ n. eq-eqb (widthAt (slots ms) i) 2 (paired-two (place-kind i h) (λ e. n (ap suc e))),
   )
-
-  -- so a binary place never moves
-  pub moved-binary : (w : List ℕ) (p : ℕ) → p ≤ lengthOf ms → isBinary (slots ms) p ≡ true → moved (slots ms) w p ≡ p
-  moved-binary w zero h t = refl
-  moved-binary w (suc i) h t =
-      let e = one-alone (place-kind i h) (eqb-true (widthAt (slots ms) i) 1 t) in
-      ap suc (stays (slots ms) w i (ap (λ (k : ℕ). getD w k 0) (sym e)))
 
 -- ---- the parts of a layout: parts 1 and 3 are binary places, parts 2 and 4 are pairs
 swapped-apart : (n i : ℕ) → n ≤ i → n + swapped (i - n) ≢ i

@@ -77,7 +77,7 @@ pub(crate) fn write(a: usize, b: usize, e: Element, out: &mut [u8], start: usize
     }
 }
 
-// Copies a message to the front of an output.
+// Copies a message or a word to the front of an output.
 pub(crate) fn copy(message: &[u8], out: &mut [u8])
     requires { ⌜ length (now message) ≤ length (now out) ⌝ }
     ensures { λ r. ⌜ now (out .exit) ≡ now (message .entry) ++ drop (length (now (message .entry))) (now (out .entry)) ⌝ }
