@@ -1,5 +1,5 @@
 -- Binary places and places of a pair, for every layout: a place is of one of the two kinds, and it is binary exactly where it is its own
--- other half (width-kinds, width-alone, width-paired); a moved place keeps its kind; parts 1 and 3 of the layout are the binary places
+-- other half (width-kinds, width-alone, width-paired); parts 1 and 3 of the layout are the binary places
 -- (binary-parts). And the width as the code tells it. Assumes nothing.
 use mathlib.Core.Path.{_≡_, refl, sym, ap, ap₂, _∙_}
 use mathlib.Core.Logic.{_≢_, _⊎_, inl, inr, ⊎-elim, _↔_}
