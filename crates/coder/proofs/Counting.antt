@@ -23,7 +23,7 @@ use Rattle.coder.specs.State.{Fit, fresh, moduliIn, placesIn, correctedP
 use Rattle.coder.specs.Calls.{inForce, opened, correctAnswer}
 use Rattle.coder.specs.Runs.{Call, correcting, other, run, outcome, outcomes, howMany, Counts, Meant, AllMeant}
 use Rattle.coder.specs.declared.Record.{Record}
-use Rattle.coder.proofs.Outcomes.{correct-accepted}
+use Rattle.coder.proofs.Corrections.{correct-accepted}
 use Rattle.coder.proofs.Refusals.{correct-untouched, opened-fresh, opened-fit}
 
 -- ---- one correction: an accepted one counts the place that it tells, a refused one leaves the record

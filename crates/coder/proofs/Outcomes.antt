@@ -7,34 +7,27 @@ use Prim.Native.Nat.{ℕ, zero, suc, _+_, _≤_}
 use native.Mathlib.Omega.{arith}
 use borrow.Author.Tests.{eqb-true, eq-eqb, ne-eqb, le-leb, ltb-false, eqb-false, not-false}
 use lib.Dec.{eqb, ltb}
-use lib.ListN.{length, take, drop}
+use lib.ListN.{length, take}
 use Rattle.group.specs.Group.{number, moduli}
 use Rattle.group.specs.Sign.{allZero}
-use Rattle.layout.specs.Parameters.{placesOf, messageOf}
-use Rattle.layout.specs.Gate.{hit}
-use Rattle.layout.specs.Layout.{slots}
+use Rattle.layout.specs.Parameters.{placesOf}
 use Rattle.layout.specs.Calls.{shapeFor}
 use Rattle.layout.specs.declared.Shape.{Shape}
 use Rattle.layout.proofs.Parameters.{admitted-admits, known-for, moduli-known}
-use Rattle.words.specs.Calls.{syndromeFor, faultFor, flipFor, widthFor, encodeFor, combineFor, invertFor, isPlace, thirdFor}
-use Rattle.words.specs.Words.{Word}
-use Rattle.words.specs.Halves.{width}
-use Rattle.words.proofs.Reading.{word-reads}
-use Rattle.words.proofs.Rule.{corrected-place}
-use Rattle.words.proofs.Theorem.{word-code, code}
-use Rattle.coder.specs.State.{Fit, isClosed, isUnfit, moduliIn, placesIn, messageIn, syndromeIn, numberIn, isCodewordIn, encodedIn}
-use Rattle.coder.specs.State.{correctedIn, correctedPlaceIn, combineIn, inverseIn, thirdIn, fullCount, isBinaryIn, isPairedIn, counted}
-use Rattle.coder.specs.Reasons.{Reason, firstReason, outside, wrongLength, shortOutput, badPlace, badByte, full}
+use Rattle.words.specs.Calls.{syndromeFor, isPlace, thirdFor}
+use Rattle.words.proofs.Theorem.{code}
+use Rattle.coder.specs.State.{Fit, isClosed, isUnfit, placesIn, messageIn, syndromeIn, numberIn, isCodewordIn}
+use Rattle.coder.specs.State.{thirdIn}
+use Rattle.coder.specs.Reasons.{Reason, firstReason, outside, wrongLength, shortOutput, badPlace, badByte}
 use Rattle.coder.specs.Calls.{ifAccepted, stateReasons, wordLength, messageLength, wordReasons, answerOf, syndromeAnswer, codewordAnswer, shown}
-use Rattle.coder.specs.Calls.{writeReasons, outputOf, encodeReasons, encodeAnswer, encodeOutput, invertReasons, invertAnswer, invertOutput}
-use Rattle.coder.specs.Calls.{correctReasons, correctAnswer, correctOutput, combineReasons, combineAnswer, combineOutput, thirdReasons, thirdAnswer}
+use Rattle.coder.specs.Calls.{writeReasons}
+use Rattle.coder.specs.Calls.{thirdReasons, thirdAnswer}
 use Rattle.coder.specs.declared.Record.{Record}
 use Rattle.coder.specs.declared.Answer.{Answer}
 use Rattle.coder.specs.declared.TestAnswer.{TestAnswer}
-use Rattle.coder.proofs.Firsts.{first-yes, Numbered, numbered-append, accepted-none, no-place}
+use Rattle.coder.proofs.Firsts.{first-yes, Numbered, accepted-none, no-place}
 use Rattle.coder.proofs.States.{state-number, state-fit, fit-true, true-fit, or-false}
 use Rattle.coder.proofs.Answers.{fit-length}
-use Rattle.coder.proofs.Bytes.{none-bits}
 
 pub if-refused : {A : Type 0} (n : ℕ) (x y : A) → n ≢ 0 → ifAccepted n x y ≡ y
 if-refused zero x y h = absurd (h refl)
@@ -86,19 +79,11 @@ word-numbered rec w = ((λ e. omega arith), ((λ e. omega arith), ((λ e. omega 
 pub write-numbered : (rec : Record) (n : ℕ) (w : List ℕ) (room : ℕ) → Numbered (writeReasons rec n w room)
 write-numbered rec n w room = ((λ e. omega arith), ((λ e. omega arith), ((λ e. omega arith), ((λ e. omega arith), ((λ e. omega arith), tt)))))
 
-pub correct-numbered : (rec : Record) (w out : List ℕ) → Numbered (correctReasons rec w (length out))
-correct-numbered rec w out =
-    numbered-append (writeReasons rec (placesIn rec) w (length out)) (full rec ∷ []) (write-numbered rec (placesIn rec) w (length out)) ((λ e. omega arith), tt)
-
-pub combine-numbered : (rec : Record) (x y out : List ℕ) → Numbered (combineReasons rec x y (length out))
-combine-numbered rec x y out =
-    ((λ e. omega arith), ((λ e. omega arith), ((λ e. omega arith), ((λ e. omega arith), ((λ e. omega arith), ((λ e. omega arith), ((λ e. omega arith), tt)))))))
-
 pub third-numbered : (rec : Record) (i j : ℕ) → Numbered (thirdReasons rec i j)
 third-numbered rec i j = ((λ e. omega arith), ((λ e. omega arith), ((λ e. omega arith), ((λ e. omega arith), ((λ e. omega arith), tt)))))
 
 -- ---- what an accepted call on a word knows, and what the functions on plain words then answer
-right-length : (n : ℕ) (w : List ℕ) → wrongLength n w .applies ≡ false → length w ≡ n
+pub right-length : (n : ℕ) (w : List ℕ) → wrongLength n w .applies ≡ false → length w ≡ n
 right-length n w h = eqb-true (length w) n (not-false (eqb (length w) n) h)
 
 pub word-accepted : (rec : Record) (w : List ℕ) → firstReason (wordReasons rec w) .number ≡ 0 → Fit rec × (length w ≡ placesIn rec)
@@ -115,73 +100,10 @@ write-accepted rec n w room e =
       ltb-false room (placesIn rec) (h .1 .1 .1 .0),
     )
 
--- what an accepted correction knows: the word is one of n bits, and words is not full
-pub correct-accepted : (rec : Record) (w out : List ℕ) → firstReason (correctReasons rec w (length out)) .number ≡ 0
-    → Fit rec × Word (placesIn rec) w × (placesIn rec ≤ length out) × (rec .words ≢ fullCount)
-correct-accepted rec w out e =
-    let h = accepted-none (correctReasons rec w (length out)) (correct-numbered rec w out) e in (
-      true-fit rec (h .1 .0),
-      record { places = right-length (placesIn rec) w (h .1 .1 .0); bits = none-bits 0 w (eqb-true (badPlace w) 0 (not-false _ (h .1 .1 .1 .1 .0))) },
-      ltb-false (length out) (placesIn rec) (h .1 .1 .1 .0),
-      eqb-false (rec .words) fullCount (h .1 .1 .1 .1 .1 .0),
-    )
-
-pub combine-accepted : (rec : Record) (x y out : List ℕ) → firstReason (combineReasons rec x y (length out)) .number ≡ 0
-    → Fit rec × (length x ≡ placesIn rec) × (length y ≡ placesIn rec) × (placesIn rec ≤ length out)
-combine-accepted rec x y out e =
-    let h = accepted-none (combineReasons rec x y (length out)) (combine-numbered rec x y out) e in (
-      true-fit rec (h .1 .0),
-      right-length (placesIn rec) x (h .1 .1 .0),
-      right-length (placesIn rec) y (h .1 .1 .1 .0),
-      ltb-false (length out) (placesIn rec) (h .1 .1 .1 .1 .0),
-    )
-
 -- the syndrome's element
 pub plain-syndrome : (rec : Record) (w : List ℕ) → Fit rec → length w ≡ placesIn rec → syndromeFor (rec .t) (rec .r) w ≡ syndromeIn rec w
 unfolding syndromeFor syndromeIn placesIn
 plain-syndrome rec w f l = rw (admitted-admits (rec .t) (rec .r) (f .admitted), le-leb (placesOf (rec .t)) (length w) (omega arith))
-
-pub plain-encode : (rec : Record) (m out : List ℕ) → Fit rec → length m ≡ messageIn rec → placesIn rec ≤ length out
-    → encodeFor (rec .t) (rec .r) m out ≡ encodedIn rec m ++ drop (placesIn rec) out
-unfolding encodeFor encodedIn placesIn messageIn
-plain-encode rec m out f l k =
-    rw (admitted-admits (rec .t) (rec .r) (f .admitted), eq-eqb (length m) (messageOf (rec .t)) l, le-leb (placesOf (rec .t)) (length out) k)
-
--- the place at fault is the one that correction changes, and flipped there the word is corrected
-pub plain-fault : (rec : Record) (w : List ℕ) → Fit rec → Word (placesIn rec) w → faultFor (rec .t) (rec .r) w ≡ correctedPlaceIn rec w
-unfolding faultFor correctedPlaceIn placesIn
-plain-fault rec w f h =
-    rw (admitted-admits (rec .t) (rec .r) (f .admitted), le-leb (placesOf (rec .t)) (length w) (let l = h .places in omega arith))
-    (sym (corrected-place (moduliIn rec) w (word-reads (moduliIn rec) (word-code (rec .t) (rec .r) (f .admitted) h))))
-
-pub plain-flip : (rec : Record) (w out : List ℕ) → Fit rec → Word (placesIn rec) w → placesIn rec ≤ length out
-    → flipFor w (correctedPlaceIn rec w) out ≡ correctedIn rec w ++ drop (placesIn rec) out
-unfolding flipFor correctedIn correctedPlaceIn placesIn
-plain-flip rec w out f h l =
-    rw (le-leb (length w) (length out) (let k = h .places in omega arith))
-    (ap₂ (λ (v : List ℕ) (n : ℕ). v ++ drop n out) (sym (code (rec .t) (rec .r) (f .admitted) .perfect w h .flipped)) (h .places))
-
-pub plain-combine : (rec : Record) (x y out : List ℕ) → Fit rec → length x ≡ placesIn rec → length y ≡ placesIn rec → placesIn rec ≤ length out
-    → combineFor (rec .t) (rec .r) x y out ≡ combineIn rec x y ++ drop (placesIn rec) out
-unfolding combineFor combineIn placesIn
-plain-combine rec x y out f k l m =
-    let n = placesOf (rec .t) in
-    rw (
-      admitted-admits (rec .t) (rec .r) (f .admitted),
-      le-leb n (length x) (omega arith),
-      le-leb n (length y) (omega arith),
-      le-leb n (length out) m,
-    )
-
-pub plain-invert : (rec : Record) (w out : List ℕ) → Fit rec → length w ≡ placesIn rec → placesIn rec ≤ length out
-    → invertFor (rec .t) (rec .r) w out ≡ inverseIn rec w ++ drop (placesIn rec) out
-unfolding invertFor inverseIn placesIn
-plain-invert rec w out f l k =
-    rw (
-      admitted-admits (rec .t) (rec .r) (f .admitted),
-      le-leb (placesOf (rec .t)) (length w) (omega arith),
-      le-leb (placesOf (rec .t)) (length out) k,
-    )
 
 -- a place that reason 5 does not turn away is one of the code
 inside : (rec : Record) (p : ℕ) → outside rec p .applies ≡ false → isPlace (rec .t) p ≡ true
@@ -306,89 +228,6 @@ module _ (rec : Record) (w : List ℕ) (a : TestAnswer) (e : a ≡ codewordAnswe
       let q = word-accepted rec w (z .0) in
       let m : n ≡ messageIn rec = k ∙ fit-length rec (messageIn rec) (fit-true rec (q .0)) in
       (ap (λ (n : ℕ). take n w) m ∙ sym (shown-codeword rec w (z .0) (z .1)), omega (arith, q .1))
-
--- ---- what is written, by what the check answered
-module _ (rec : Record) (rs : List Reason) (out : List ℕ) (a : Answer) (e : a ≡ answerOf (firstReason rs)) (new : List ℕ) where
-  written-by : a .refusal ≡ firstReason rs .number
-  written-by = ap (λ (x : Answer). x .refusal) e
-
-  kept : a .refusal ≢ 0 → out ≡ outputOf (firstReason rs) rec new out
-  kept h = let k : firstReason rs .number ≢ 0 = λ z. h (written-by ∙ z) in sym (if-refused _ _ _ k)
-
-  -- f is what the function on plain words leaves, once the call is accepted
-  wrote : (f : List ℕ) → (firstReason rs .number ≡ 0 → f ≡ new ++ drop (placesIn rec) out) → a .refusal ≡ 0 → f ≡ outputOf (firstReason rs) rec new out
-  wrote f g h = let z = sym written-by ∙ h in rw z (g z)
-
-module _ (rec : Record) (w out : List ℕ) (a : Answer) where
-  pub encode-kept : a ≡ encodeAnswer rec w out → a .refusal ≢ 0 → out ≡ encodeOutput rec w out
-  unfolding encodeAnswer encodeOutput
-  encode-kept e h = kept rec (encodeReasons rec w (length out)) out a e (encodedIn rec w) h
-
-  pub encode-wrote : a ≡ encodeAnswer rec w out → a .refusal ≡ 0 → encodeFor (rec .t) (rec .r) w out ≡ encodeOutput rec w out
-  unfolding encodeAnswer encodeOutput
-  encode-wrote e h =
-      wrote rec (encodeReasons rec w (length out)) out a e (encodedIn rec w) (encodeFor (rec .t) (rec .r) w out)
-      (λ z. let q = write-accepted rec (messageIn rec) w (length out) z in plain-encode rec w out (q .0) (q .1) (q .2)) h
-
-  pub invert-kept : a ≡ invertAnswer rec w out → a .refusal ≢ 0 → out ≡ invertOutput rec w out
-  unfolding invertAnswer invertOutput
-  invert-kept e h = kept rec (invertReasons rec w (length out)) out a e (inverseIn rec w) h
-
-  pub invert-wrote : a ≡ invertAnswer rec w out → a .refusal ≡ 0 → invertFor (rec .t) (rec .r) w out ≡ invertOutput rec w out
-  unfolding invertAnswer invertOutput
-  invert-wrote e h =
-      wrote rec (invertReasons rec w (length out)) out a e (inverseIn rec w) (invertFor (rec .t) (rec .r) w out)
-      (λ z. let q = write-accepted rec (placesIn rec) w (length out) z in plain-invert rec w out (q .0) (q .1) (q .2)) h
-
-module _ (rec : Record) (x y out : List ℕ) (a : Answer) where
-  pub combine-kept : a ≡ combineAnswer rec x y out → a .refusal ≢ 0 → out ≡ combineOutput rec x y out
-  unfolding combineAnswer combineOutput
-  combine-kept e h = kept rec (combineReasons rec x y (length out)) out a e (combineIn rec x y) h
-
-  pub combine-wrote : a ≡ combineAnswer rec x y out → a .refusal ≡ 0 → combineFor (rec .t) (rec .r) x y out ≡ combineOutput rec x y out
-  unfolding combineAnswer combineOutput
-  combine-wrote e h =
-      wrote rec (combineReasons rec x y (length out)) out a e (combineIn rec x y) (combineFor (rec .t) (rec .r) x y out)
-      (λ z. let q = combine-accepted rec x y out z in plain-combine rec x y out (q .0) (q .1) (q .2) (q .3)) h
-
--- ---- the counts, by the width of the place
-pub plain-width : (rec : Record) (p : ℕ) → Fit rec → widthFor (rec .t) (rec .r) p ≡ width (slots (moduliIn rec)) p
-unfolding widthFor
-plain-width rec p f = rw (admitted-admits (rec .t) (rec .r) (f .admitted))
-
-pub counted-by : (rec : Record) (p k : ℕ) → Fit rec → k ≡ widthFor (rec .t) (rec .r) p → (x y z : ℕ)
-    → x ≡ rec .clean + hit (eqb p 0) → y ≡ rec .«corrected_binary» + hit (eqb k 1) → z ≡ rec .«corrected_pairs» + hit (eqb k 2)
-    → record { t = rec .t; r = rec .r; words = rec .words + 1; clean = x; «corrected_binary» = y; «corrected_pairs» = z } ≡ counted rec p
-unfolding counted isBinaryIn isPairedIn
-counted-by rec p k f e x y z a b c = rw (a, b, c, e ∙ plain-width rec p f)
-
--- ---- correction, by what the check answered
-module _ (rec : Record) (w out : List ℕ) (a : Answer) (e : a ≡ answerOf (firstReason (correctReasons rec w (length out)))) where
-  corrected-by : a .refusal ≡ firstReason (correctReasons rec w (length out)) .number
-  corrected-by = ap (λ (x : Answer). x .refusal) e
-
-  pub correct-ready : a .refusal ≡ 0 → Fit rec × Word (placesIn rec) w × (placesIn rec ≤ length out) × (rec .words ≢ fullCount)
-  correct-ready h = correct-accepted rec w out (sym corrected-by ∙ h)
-
-  pub correct-refused : a .refusal ≢ 0
-      → (record { refusal = a .refusal; place = a .place; «record» = rec } ≡ correctAnswer rec w out) × (out ≡ correctOutput rec w out)
-  unfolding correctAnswer correctOutput
-  correct-refused h =
-      let k : firstReason (correctReasons rec w (length out)) .number ≢ 0 = λ z. h (corrected-by ∙ z) in (
-        rw (if-refused _ _ _ k, if-refused _ _ _ k, ← corrected-by, ap (λ (x : Answer). x .place) e),
-        kept rec (correctReasons rec w (length out)) out a e (correctedIn rec w) h,
-      )
-
-  pub correct-changed : a .refusal ≡ 0 → (p : ℕ) → p ≡ faultFor (rec .t) (rec .r) w → (f : List ℕ) → f ≡ flipFor w p out → (next : Record) → next ≡ counted rec p
-      → (record { refusal = a .refusal; place = p; «record» = next } ≡ correctAnswer rec w out) × (f ≡ correctOutput rec w out)
-  unfolding correctAnswer correctOutput
-  correct-changed h p q f g next k =
-      let z = sym corrected-by ∙ h in
-      let y = correct-ready h in
-      let u : p ≡ correctedPlaceIn rec w = q ∙ plain-fault rec w (y .0) (y .1) in (
-        rw (z, h, k, u),
-        rw z (g ∙ ap (λ (i : ℕ). flipFor w i out) u ∙ plain-flip rec w out (y .0) (y .1) (y .2)),
-      )
 
 -- ---- the third place, by the number that the check answered
 module _ (rec : Record) (i j x : ℕ) where

@@ -23,7 +23,9 @@ use Rattle.coder.specs.Claims.{Refuses}
 use Rattle.coder.proofs.Firsts.{by-first}
 use Rattle.coder.proofs.States.{fit-true, true-fit}
 use Rattle.coder.proofs.Bytes.{bits-none, none-bits}
-use Rattle.coder.proofs.Outcomes.{if-refused, word-numbered, write-numbered, correct-numbered, combine-numbered, third-numbered, encode-kept, combine-kept, invert-kept}
+use Rattle.coder.proofs.Outcomes.{if-refused, word-numbered, write-numbered, third-numbered}
+use Rattle.coder.proofs.Outputs.{combine-numbered, encode-kept, combine-kept, invert-kept}
+use Rattle.coder.proofs.Corrections.{correct-numbered}
 use Rattle.coder.proofs.Answers.{opened-yes, opened-no, element-inside, element-refusal, outside-yes}
 
 -- ---- "for those reasons only"

@@ -2,7 +2,7 @@
 use borrow.Author.Needs.{needs}
 use mathlib.Core.Path.{_≡_, _∙_}
 use Rattle.coder.specs.Calls.{combineAnswer}
-use Rattle.coder.proofs.Outcomes.{combine-kept, combine-wrote}
+use Rattle.coder.proofs.Outputs.{combine-kept, combine-wrote}
 use Rattle.coder.proofs.combine.Statement.{statement}
 use Rattle.coder.proofs.combine.Tie as tie
 

@@ -1,6 +1,6 @@
 -- `coder::correct` meets its contract: what the check answers, and where it accepts, the word with the place at fault flipped. Assumes nothing.
 use borrow.Author.Needs.{needs}
-use Rattle.coder.proofs.Outcomes.{correct-ready, correct-refused, correct-changed}
+use Rattle.coder.proofs.Corrections.{correct-ready, correct-refused, correct-changed}
 use Rattle.coder.proofs.correct.Statement.{statement}
 use Rattle.coder.proofs.correct.Tie as tie
 

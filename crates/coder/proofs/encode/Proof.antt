@@ -5,7 +5,8 @@ use mathlib.Core.List.{[], _∷_}
 use lib.ListN.{length}
 use Rattle.coder.specs.Reasons.{wrongLength, shortOutput, badByte}
 use Rattle.coder.specs.Calls.{answerOf, encodeAnswer}
-use Rattle.coder.proofs.Outcomes.{by-lengths, encode-kept, encode-wrote}
+use Rattle.coder.proofs.Outcomes.{by-lengths}
+use Rattle.coder.proofs.Outputs.{encode-kept, encode-wrote}
 use Rattle.coder.proofs.encode.Statement.{statement}
 use Rattle.coder.proofs.encode.Tie as tie
 

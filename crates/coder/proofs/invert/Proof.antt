@@ -5,7 +5,8 @@ use mathlib.Core.List.{[], _∷_}
 use lib.ListN.{length}
 use Rattle.coder.specs.Reasons.{wrongLength, shortOutput, badByte}
 use Rattle.coder.specs.Calls.{answerOf, invertAnswer}
-use Rattle.coder.proofs.Outcomes.{by-lengths, invert-kept, invert-wrote}
+use Rattle.coder.proofs.Outcomes.{by-lengths}
+use Rattle.coder.proofs.Outputs.{invert-kept, invert-wrote}
 use Rattle.coder.proofs.invert.Statement.{statement}
 use Rattle.coder.proofs.invert.Tie as tie
 

@@ -1,0 +1,112 @@
+-- What the calls that write a word answer and leave: encoding, the inverse and combining, by the first reason that applies; what their
+-- proofs cite. Assumes nothing.
+use mathlib.Core.Path.{_≡_, sym, ap, _∙_}
+use mathlib.Core.Logic.{_≢_}
+use mathlib.Core.List.{List, _++_}
+use Prim.Native.Nat.{ℕ, _+_, _≤_}
+use native.Mathlib.Omega.{arith}
+use borrow.Author.Tests.{eq-eqb, le-leb, ltb-false}
+use lib.ListN.{length, drop}
+use Rattle.group.specs.Group.{number}
+use Rattle.layout.specs.Parameters.{placesOf, messageOf}
+use Rattle.layout.proofs.Parameters.{admitted-admits}
+use Rattle.words.specs.Calls.{encodeFor, combineFor, invertFor}
+use Rattle.coder.specs.State.{Fit, placesIn, messageIn, encodedIn}
+use Rattle.coder.specs.State.{combineIn, inverseIn}
+use Rattle.coder.specs.Reasons.{Reason, firstReason}
+use Rattle.coder.specs.Calls.{answerOf}
+use Rattle.coder.specs.Calls.{outputOf, encodeReasons, encodeAnswer, encodeOutput, invertReasons, invertAnswer, invertOutput}
+use Rattle.coder.specs.Calls.{combineReasons, combineAnswer, combineOutput}
+use Rattle.coder.specs.declared.Record.{Record}
+use Rattle.coder.specs.declared.Answer.{Answer}
+use Rattle.coder.proofs.Firsts.{Numbered, accepted-none}
+use Rattle.coder.proofs.States.{true-fit}
+use Rattle.coder.proofs.Outcomes.{if-refused, right-length, write-accepted}
+
+-- ---- what is written, by what the check answered
+module _ (rec : Record) (rs : List Reason) (out : List ℕ) (a : Answer) (e : a ≡ answerOf (firstReason rs)) (new : List ℕ) where
+  written-by : a .refusal ≡ firstReason rs .number
+  written-by = ap (λ (x : Answer). x .refusal) e
+
+  pub kept : a .refusal ≢ 0 → out ≡ outputOf (firstReason rs) rec new out
+  kept h = let k : firstReason rs .number ≢ 0 = λ z. h (written-by ∙ z) in sym (if-refused _ _ _ k)
+
+  -- f is what the function on plain words leaves, once the call is accepted
+  pub wrote : (f : List ℕ) → (firstReason rs .number ≡ 0 → f ≡ new ++ drop (placesIn rec) out) → a .refusal ≡ 0 → f ≡ outputOf (firstReason rs) rec new out
+  wrote f g h = let z = sym written-by ∙ h in rw z (g z)
+
+-- ---- one word
+pub plain-encode : (rec : Record) (m out : List ℕ) → Fit rec → length m ≡ messageIn rec → placesIn rec ≤ length out
+    → encodeFor (rec .t) (rec .r) m out ≡ encodedIn rec m ++ drop (placesIn rec) out
+unfolding encodeFor encodedIn placesIn messageIn
+plain-encode rec m out f l k =
+    rw (admitted-admits (rec .t) (rec .r) (f .admitted), eq-eqb (length m) (messageOf (rec .t)) l, le-leb (placesOf (rec .t)) (length out) k)
+
+pub plain-invert : (rec : Record) (w out : List ℕ) → Fit rec → length w ≡ placesIn rec → placesIn rec ≤ length out
+    → invertFor (rec .t) (rec .r) w out ≡ inverseIn rec w ++ drop (placesIn rec) out
+unfolding invertFor inverseIn placesIn
+plain-invert rec w out f l k =
+    rw (
+      admitted-admits (rec .t) (rec .r) (f .admitted),
+      le-leb (placesOf (rec .t)) (length w) (omega arith),
+      le-leb (placesOf (rec .t)) (length out) k,
+    )
+
+module _ (rec : Record) (w out : List ℕ) (a : Answer) where
+  pub encode-kept : a ≡ encodeAnswer rec w out → a .refusal ≢ 0 → out ≡ encodeOutput rec w out
+  unfolding encodeAnswer encodeOutput
+  encode-kept e h = kept rec (encodeReasons rec w (length out)) out a e (encodedIn rec w) h
+
+  pub encode-wrote : a ≡ encodeAnswer rec w out → a .refusal ≡ 0 → encodeFor (rec .t) (rec .r) w out ≡ encodeOutput rec w out
+  unfolding encodeAnswer encodeOutput
+  encode-wrote e h =
+      wrote rec (encodeReasons rec w (length out)) out a e (encodedIn rec w) (encodeFor (rec .t) (rec .r) w out)
+      (λ z. let q = write-accepted rec (messageIn rec) w (length out) z in plain-encode rec w out (q .0) (q .1) (q .2)) h
+
+  pub invert-kept : a ≡ invertAnswer rec w out → a .refusal ≢ 0 → out ≡ invertOutput rec w out
+  unfolding invertAnswer invertOutput
+  invert-kept e h = kept rec (invertReasons rec w (length out)) out a e (inverseIn rec w) h
+
+  pub invert-wrote : a ≡ invertAnswer rec w out → a .refusal ≡ 0 → invertFor (rec .t) (rec .r) w out ≡ invertOutput rec w out
+  unfolding invertAnswer invertOutput
+  invert-wrote e h =
+      wrote rec (invertReasons rec w (length out)) out a e (inverseIn rec w) (invertFor (rec .t) (rec .r) w out)
+      (λ z. let q = write-accepted rec (placesIn rec) w (length out) z in plain-invert rec w out (q .0) (q .1) (q .2)) h
+
+-- ---- two words
+pub combine-numbered : (rec : Record) (x y out : List ℕ) → Numbered (combineReasons rec x y (length out))
+combine-numbered rec x y out =
+    ((λ e. omega arith), ((λ e. omega arith), ((λ e. omega arith), ((λ e. omega arith), ((λ e. omega arith), ((λ e. omega arith), ((λ e. omega arith), tt)))))))
+
+pub combine-accepted : (rec : Record) (x y out : List ℕ) → firstReason (combineReasons rec x y (length out)) .number ≡ 0
+    → Fit rec × (length x ≡ placesIn rec) × (length y ≡ placesIn rec) × (placesIn rec ≤ length out)
+combine-accepted rec x y out e =
+    let h = accepted-none (combineReasons rec x y (length out)) (combine-numbered rec x y out) e in (
+      true-fit rec (h .1 .0),
+      right-length (placesIn rec) x (h .1 .1 .0),
+      right-length (placesIn rec) y (h .1 .1 .1 .0),
+      ltb-false (length out) (placesIn rec) (h .1 .1 .1 .1 .0),
+    )
+
+pub plain-combine : (rec : Record) (x y out : List ℕ) → Fit rec → length x ≡ placesIn rec → length y ≡ placesIn rec → placesIn rec ≤ length out
+    → combineFor (rec .t) (rec .r) x y out ≡ combineIn rec x y ++ drop (placesIn rec) out
+unfolding combineFor combineIn placesIn
+plain-combine rec x y out f k l m =
+    let n = placesOf (rec .t) in
+    rw (
+      admitted-admits (rec .t) (rec .r) (f .admitted),
+      le-leb n (length x) (omega arith),
+      le-leb n (length y) (omega arith),
+      le-leb n (length out) m,
+    )
+
+module _ (rec : Record) (x y out : List ℕ) (a : Answer) where
+  pub combine-kept : a ≡ combineAnswer rec x y out → a .refusal ≢ 0 → out ≡ combineOutput rec x y out
+  unfolding combineAnswer combineOutput
+  combine-kept e h = kept rec (combineReasons rec x y (length out)) out a e (combineIn rec x y) h
+
+  pub combine-wrote : a ≡ combineAnswer rec x y out → a .refusal ≡ 0 → combineFor (rec .t) (rec .r) x y out ≡ combineOutput rec x y out
+  unfolding combineAnswer combineOutput
+  combine-wrote e h =
+      wrote rec (combineReasons rec x y (length out)) out a e (combineIn rec x y) (combineFor (rec .t) (rec .r) x y out)
+      (λ z. let q = combine-accepted rec x y out z in plain-combine rec x y out (q .0) (q .1) (q .2) (q .3)) h
