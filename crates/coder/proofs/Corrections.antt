@@ -2,13 +2,11 @@
 use mathlib.Core.Path.{_≡_, sym, ap, ap₂, _∙_}
 use mathlib.Core.Logic.{_≢_}
 use mathlib.Core.List.{List, [], _∷_, _++_}
-use mathlib.Core.Bool.{not}
 use Prim.Native.Nat.{ℕ, _+_, _≤_}
 use native.Mathlib.Omega.{arith}
 use borrow.Author.Tests.{eqb-true, le-leb, ltb-false, eqb-false, not-false}
 use lib.Dec.{eqb}
 use lib.ListN.{length, drop}
-use Rattle.group.specs.Group.{number}
 use Rattle.layout.specs.Parameters.{placesOf}
 use Rattle.layout.specs.Gate.{hit}
 use Rattle.layout.specs.Layout.{slots}
@@ -19,12 +17,9 @@ use Rattle.words.specs.Halves.{width}
 use Rattle.words.proofs.Reading.{word-reads}
 use Rattle.words.proofs.Rule.{corrected-place}
 use Rattle.words.proofs.Theorem.{word-code, code}
-use Rattle.coder.specs.State.{Fit, moduliIn, placesIn}
-use Rattle.coder.specs.State.{correctedIn, correctedPlaceIn, fullCount, isBinaryIn, isPairedIn, counted}
+use Rattle.coder.specs.State.{Fit, moduliIn, placesIn, correctedIn, correctedPlaceIn, fullCount, isBinaryIn, isPairedIn, counted}
 use Rattle.coder.specs.Reasons.{firstReason, badPlace, full}
-use Rattle.coder.specs.Calls.{answerOf}
-use Rattle.coder.specs.Calls.{writeReasons}
-use Rattle.coder.specs.Calls.{correctReasons, correctAnswer, correctOutput}
+use Rattle.coder.specs.Calls.{answerOf, writeReasons, correctReasons, correctAnswer, correctOutput}
 use Rattle.coder.specs.declared.Record.{Record}
 use Rattle.coder.specs.declared.Answer.{Answer}
 use Rattle.coder.proofs.Firsts.{Numbered, numbered-append, accepted-none}

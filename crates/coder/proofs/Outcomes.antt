@@ -15,12 +15,9 @@ use Rattle.layout.specs.Calls.{shapeFor}
 use Rattle.layout.specs.declared.Shape.{Shape}
 use Rattle.layout.proofs.Parameters.{admitted-admits, known-for, moduli-known}
 use Rattle.words.specs.Calls.{syndromeFor, isPlace, thirdFor}
-use Rattle.words.proofs.Theorem.{code}
-use Rattle.coder.specs.State.{Fit, isClosed, isUnfit, placesIn, messageIn, syndromeIn, numberIn, isCodewordIn}
-use Rattle.coder.specs.State.{thirdIn}
+use Rattle.coder.specs.State.{Fit, isClosed, isUnfit, placesIn, messageIn, syndromeIn, numberIn, isCodewordIn, thirdIn}
 use Rattle.coder.specs.Reasons.{Reason, firstReason, outside, wrongLength, shortOutput, badPlace, badByte}
-use Rattle.coder.specs.Calls.{ifAccepted, stateReasons, wordLength, messageLength, wordReasons, answerOf, syndromeAnswer, codewordAnswer, shown}
-use Rattle.coder.specs.Calls.{writeReasons}
+use Rattle.coder.specs.Calls.{ifAccepted, stateReasons, wordLength, messageLength, wordReasons, answerOf, syndromeAnswer, codewordAnswer, shown, writeReasons}
 use Rattle.coder.specs.Calls.{thirdReasons, thirdAnswer}
 use Rattle.coder.specs.declared.Record.{Record}
 use Rattle.coder.specs.declared.Answer.{Answer}

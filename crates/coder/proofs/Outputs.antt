@@ -7,15 +7,12 @@ use Prim.Native.Nat.{ℕ, _+_, _≤_}
 use native.Mathlib.Omega.{arith}
 use borrow.Author.Tests.{eq-eqb, le-leb, ltb-false}
 use lib.ListN.{length, drop}
-use Rattle.group.specs.Group.{number}
 use Rattle.layout.specs.Parameters.{placesOf, messageOf}
 use Rattle.layout.proofs.Parameters.{admitted-admits}
 use Rattle.words.specs.Calls.{encodeFor, combineFor, invertFor}
-use Rattle.coder.specs.State.{Fit, placesIn, messageIn, encodedIn}
-use Rattle.coder.specs.State.{combineIn, inverseIn}
+use Rattle.coder.specs.State.{Fit, placesIn, messageIn, encodedIn, combineIn, inverseIn}
 use Rattle.coder.specs.Reasons.{Reason, firstReason}
-use Rattle.coder.specs.Calls.{answerOf}
-use Rattle.coder.specs.Calls.{outputOf, encodeReasons, encodeAnswer, encodeOutput, invertReasons, invertAnswer, invertOutput}
+use Rattle.coder.specs.Calls.{answerOf, outputOf, encodeReasons, encodeAnswer, encodeOutput, invertReasons, invertAnswer, invertOutput}
 use Rattle.coder.specs.Calls.{combineReasons, combineAnswer, combineOutput}
 use Rattle.coder.specs.declared.Record.{Record}
 use Rattle.coder.specs.declared.Answer.{Answer}
