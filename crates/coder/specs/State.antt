@@ -1,5 +1,5 @@
--- Document 01, "The record": the struct `Record` of src/lib.rt, whose six fields are numbers. Lengths and the layout are those of a record, so that callers need not know what fixes them.
--- Assumes nothing.
+-- Document 01, "The record": the struct `Record` of src/lib.rt, whose six fields are numbers. Lengths and the layout are those of a record, so
+-- that callers need not know what fixes them. Assumes nothing.
 use mathlib.Core.Path.{_≡_}
 use mathlib.Core.Bool.{Bool, _&&_, _||_, not}
 use mathlib.Core.List.{List}

@@ -60,7 +60,7 @@ pub(crate) fn word(record: Record, word: &[u8]) -> Answer
     output(record, s.places, word, 0, 0)
 }
 
-// The same as for an output, and 23 last of all.
+// 21, 22, 2, 3 and 4 of a word and an output, and 23 last of all.
 pub(crate) fn correction(record: Record, word: &[u8], room: usize) -> Answer
     ensures { λ x. ⌜ x ≡ answerOf (firstReason (correctReasons «record» (now (word .entry)) room)) ⌝ }
 {
