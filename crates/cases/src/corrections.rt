@@ -1,4 +1,4 @@
-// Correction. Each line ends with the record after the call.
+// Correction. Each line of a correction ends with the record after the call.
 use crate::lines::combine;
 use crate::lines::correct;
 use crate::lines::encode;

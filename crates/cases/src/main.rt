@@ -1,4 +1,5 @@
-// Document 01's executed cases: one line each, the input, a colon, and the answer.
+// Document 01's executed cases and more: one line each, the input, a colon, and the answer, under a line
+// that names the group. The README's example prints its results alone.
 mod combinations;
 mod corrections;
 mod layouts;

@@ -1,4 +1,4 @@
--- What each call answers, by the reasons that apply: what the proofs of the calls cite. Assumes nothing.
+-- What opening, the layout call and the lengths answer, by the reasons that apply: what the proofs of the calls cite. Assumes nothing.
 use mathlib.Core.Path.{_≡_, refl, ap, ap₂, _∙_}
 use mathlib.Core.Logic.{_⊎_, inl, inr, _≢_}
 use mathlib.Core.List.{List, [], _∷_}

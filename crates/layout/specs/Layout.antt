@@ -54,7 +54,7 @@ unfoldable pub units : List Modulus → List Slot
 units [] = []
 units (m ∷ ms) = unitSlot m (1 ∷ zeros ms) (map under (units ms))
 
--- "Parts 1 and 2 are the message, 3 and 4 the check."
+-- "Parts 1 and 2 are the message, 3 and 4 the check"
 unfoldable pub message : List Modulus → List Slot
 message ms = map single (singles ms) ++ map pair (pairs ms)
 

@@ -1,4 +1,5 @@
-// One place of a word: which is at fault, and the word with it flipped.
+// One place of a word: which is at fault, the word with it flipped, and whether it is binary or of a
+// pair.
 ghost use mathlib.Core.Path.{_≡_};
 ghost use mathlib.Core.List.{_++_};
 ghost use Prim.Native.Nat.{ℕ, _-_, _<_, _≤_};
