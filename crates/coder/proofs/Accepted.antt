@@ -25,8 +25,8 @@ use Rattle.coder.proofs.Bytes.{bits-none}
 use Rattle.coder.proofs.Told.{reads}
 
 -- ---- the reasons that a word of n bits rules out
-right-length : (n : ℕ) (w : List ℕ) → Word n w → wrongLength n w .applies ≡ false
-right-length n w h = ap not (eq-eqb (length w) n (h .places))
+no-other-length : (n : ℕ) (w : List ℕ) → Word n w → wrongLength n w .applies ≡ false
+no-other-length n w h = ap not (eq-eqb (length w) n (h .places))
 
 no-bad : (n : ℕ) (w : List ℕ) → Word n w → badByte w .applies ≡ false
 no-bad n w h = ap not (eq-eqb (badPlace w) 0 (bits-none 1 w (h .bits)))
@@ -34,13 +34,13 @@ no-bad n w h = ap not (eq-eqb (badPlace w) 0 (bits-none 1 w (h .bits)))
 pub word-none : (rec : Record) (w : List ℕ) → Fit rec → Word (placesIn rec) w → NoneApplies (wordReasons rec w)
 word-none rec w f h =
     let k = fit-true rec f in
-    (k .0, (k .1, (right-length (placesIn rec) w h, (no-bad (placesIn rec) w h, tt))))
+    (k .0, (k .1, (no-other-length (placesIn rec) w h, (no-bad (placesIn rec) w h, tt))))
 
 pub write-none : (rec : Record) (n : ℕ) (w : List ℕ) (room : ℕ) → Fit rec → Word n w → placesIn rec ≤ room
     → NoneApplies (writeReasons rec n w room)
 write-none rec n w room f h l =
     let k = fit-true rec f in
-    (k .0, (k .1, (right-length n w h, (le-ltb room (placesIn rec) l, (no-bad n w h, tt)))))
+    (k .0, (k .1, (no-other-length n w h, (le-ltb room (placesIn rec) l, (no-bad n w h, tt)))))
 
 pub correct-none : (rec : Record) (w out : List ℕ) → Fit rec → rec .words ≢ fullCount → Word (placesIn rec) w → placesIn rec ≤ length out
     → NoneApplies (correctReasons rec w (length out))
@@ -52,7 +52,7 @@ pub combine-none : (rec : Record) (x y out : List ℕ) → Fit rec → Word (pla
 combine-none rec x y out f h i l =
     let n = placesIn rec in
     let k = fit-true rec f in
-    (k .0, (k .1, (right-length n x h, (right-length n y i, (le-ltb (length out) n l, (no-bad n x h, (no-bad n y i, tt)))))))
+    (k .0, (k .1, (no-other-length n x h, (no-other-length n y i, (le-ltb (length out) n l, (no-bad n x h, (no-bad n y i, tt)))))))
 
 -- ---- the calls
 pub syndrome-accepts : (rec : Record) (w : List ℕ) → Fit rec → Word (placesIn rec) w

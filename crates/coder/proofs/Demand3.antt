@@ -16,13 +16,14 @@ use Rattle.words.proofs.Reading.{word-reads, reads-word}
 use Rattle.words.proofs.Flips.{flip-twice}
 use Rattle.words.proofs.Perfect.{flip-place-reads}
 use Rattle.words.proofs.Theorem.{length-code, word-code, code}
-use Rattle.coder.specs.State.{fresh, moduliIn, placesIn, messageIn, encodedIn, correctedIn, correctedPlaceIn, combineIn}
-use Rattle.coder.specs.Calls.{opened, encodeOutput, correctOutput, combineOutput}
+use Rattle.coder.specs.State.{fresh, moduliIn, placesIn, messageIn, encodedIn, correctedIn, correctedPlaceIn}
+use Rattle.coder.specs.Calls.{opened, encodeOutput, correctOutput}
 use Rattle.coder.specs.Demand3.{Own, NotFull, AcceptsMessage, encodedBy, AcceptsTwo, combinedBy, AcceptsWord, correctedBy, placeBy, MovedBy, AtWord, Demand3}
 use Rattle.coder.specs.declared.Answer.{Answer}
 use Rattle.coder.specs.declared.Corrected.{Corrected}
 use Rattle.coder.proofs.Refusals.{opens, fresh-fit}
 use Rattle.coder.proofs.Accepted.{encode-accepts, correct-accepts, combine-accepts}
+use Rattle.coder.proofs.Triples.{combined-front}
 use Rattle.coder.proofs.Moves.{moved-by}
 
 module _ (t r : ℕ) (ok : Admitted t r) where
@@ -63,15 +64,11 @@ module _ (t r : ℕ) (ok : Admitted t r) where
               (a .1 ∙ ap (λ (s : List Modulus). encode s m ++ drop (placesIn (o .given)) (o .output)) same-code),
         )
 
-    combine-does : (x y : List ℕ) → Word (placesOf t) x → Word (placesOf t) y → Word (placesOf t) (combine (slots ms) x y)
-        → AcceptsTwo o x y × (combinedBy o x y ≡ combine (slots ms) x y)
-    unfolding combineIn
-    combine-does x y h i k =
-        let a = combine-accepts (o .given) x y (o .output) (o .code .fit) (word-in h) (word-in i) room-in in (
-          ap (λ (x : Answer). x .refusal) (a .0),
-          front-by (combine (slots ms) x y) (drop (placesIn (o .given)) (o .output)) (combineOutput (o .given) x y (o .output)) k
-              (a .1 ∙ ap (λ (s : List Modulus). combine (slots s) x y ++ drop (placesIn (o .given)) (o .output)) same-code),
-        )
+    combine-does : (x y : List ℕ) → Word (placesOf t) x → Word (placesOf t) y → AcceptsTwo o x y × (combinedBy o x y ≡ combine (slots ms) x y)
+    combine-does x y h i = (
+      ap (λ (x : Answer). x .refusal) (combine-accepts (o .given) x y (o .output) (o .code .fit) (word-in h) (word-in i) room-in .0),
+      combined-front t r (o .given) (o .code) x y (o .output) h i (o .enough),
+    )
 
     correct-does : (w : List ℕ) → NotFull o → Word (placesOf t) w → Word (placesOf t) (corrected ms w)
         → AcceptsWord o w × (correctedBy o w ≡ corrected ms w) × (placeBy o w ≡ correctedPlace ms w)
@@ -155,9 +152,9 @@ module _ (t r : ℕ) (ok : Admitted t r) where
         let y = combine (slots ms) d w in
         let k = combine-word (is-word q) h in
         let v = theorems .carries d w q h in
-        let a = combine-does o₁ d w (is-word q) h k in
+        let a = combine-does o₁ d w (is-word q) h in
         let b = correct-does o₂ y n k (is-word (theorems .perfect y k .codeword)) in
-        let u = combine-does o₃ d c (is-word q) (is-word (near .codeword)) (combine-word (is-word q) (is-word (near .codeword))) in (
+        let u = combine-does o₃ d c (is-word q) (is-word (near .codeword)) in (
           a .0,
           subst (AcceptsWord o₂) (sym (a .1)) (b .0),
           u .0,

@@ -19,7 +19,7 @@ use Rattle.coder.specs.declared.Answer.{Answer}
 use Rattle.coder.proofs.Accepted.{front, combine-accepts, invert-accepts, third-accepts}
 
 -- ---- combining, with any record of the code
-combined-front : (t r : ℕ) (other : Record) → RecordOf t r other → (x y o : List ℕ) → Word (placesOf t) x → Word (placesOf t) y → placesOf t ≤ length o
+pub combined-front : (t r : ℕ) (other : Record) → RecordOf t r other → (x y o : List ℕ) → Word (placesOf t) x → Word (placesOf t) y → placesOf t ≤ length o
     → take (placesOf t) (combineOutput other x y o) ≡ combine (slots (moduliFor t r)) x y
 unfolding placesIn combineIn
 combined-front t r other c x y o h k l =
