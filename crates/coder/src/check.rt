@@ -7,7 +7,8 @@ ghost use Prim.Native.Nat.{_<_, _≤_};
 ghost use lib.Dec.{eqb, ltb};
 ghost use lib.ListN.{length};
 ghost use Rattle.coder.specs.Reasons.{firstReason, wrongLength, shortOutput, badByte, badPlace};
-ghost use Rattle.coder.specs.Calls.{answerOf, stateReasons, wordReasons, correctReasons, combineReasons, thirdReasons};
+ghost use Rattle.coder.specs.State.{placesIn};
+ghost use Rattle.coder.specs.Calls.{answerOf, stateReasons, wordReasons, writeReasons, correctReasons, combineReasons, thirdReasons};
 use crate::Answer;
 use crate::Record;
 use crate::fit;
@@ -60,13 +61,20 @@ pub(crate) fn word(record: Record, word: &[u8]) -> Answer
     output(record, s.places, word, 0, 0)
 }
 
+// The same for a word and an output that is to hold one.
+pub(crate) fn written(record: Record, word: &[u8], room: usize) -> Answer
+    ensures { λ x. ⌜ x ≡ answerOf (firstReason (writeReasons «record» (placesIn «record») (now (word .entry)) room)) ⌝ }
+{
+    let s = fit::lengths(record);
+    let n = s.places;
+    output(record, n, word, n, room)
+}
+
 // 21, 22, 2, 3 and 4 of a word and an output, and 23 last of all.
 pub(crate) fn correction(record: Record, word: &[u8], room: usize) -> Answer
     ensures { λ x. ⌜ x ≡ answerOf (firstReason (correctReasons «record» (now (word .entry)) room)) ⌝ }
 {
-    let s = fit::lengths(record);
-    let n = s.places;
-    let a = output(record, n, word, n, room);
+    let a = written(record, word, room);
     let all = record.words;
     if a.refusal != 0 {
         return a;

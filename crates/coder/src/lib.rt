@@ -255,9 +255,7 @@ pub fn invert(record: Record, word: &[u8], out: &mut [u8]) -> Answer
     ensures answer { λ x. ⌜ x ≡ invertAnswer «record» (now (word .entry)) (now (out .entry)) ⌝ }
     ensures bytes { λ x. ⌜ now (out .exit) ≡ invertOutput «record» (now (word .entry)) (now (out .entry)) ⌝ }
 {
-    let s = fit::lengths(record);
-    let n = s.places;
-    let a = check::output(record, n, word, n, out.len());
+    let a = check::written(record, word, out.len());
     if a.refusal == 0 {
         let t = record.t;
         let r = record.r;
