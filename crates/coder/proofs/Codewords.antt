@@ -22,7 +22,7 @@ use Rattle.coder.specs.declared.Record.{Record}
 use Rattle.coder.specs.declared.TestAnswer.{TestAnswer}
 use Rattle.coder.proofs.Firsts.{accepted-none}
 use Rattle.coder.proofs.Bytes.{none-bits}
-use Rattle.coder.proofs.Outcomes.{word-numbered, says-yes, shown-no}
+use Rattle.coder.proofs.Outcomes.{says-yes, shown-no}
 use Rattle.coder.proofs.Accepted.{codeword-accepts, reading-accepts}
 
 module _ (rec : Record) (f : Fit rec) (w : List ℕ) where
@@ -35,7 +35,7 @@ module _ (rec : Record) (f : Fit rec) (w : List ℕ) where
   unfolding isCodewordIn
   to e =
       let y = says-yes rec w e in
-      let h = accepted-none (wordReasons rec w) (word-numbered rec w) (y .0) in
+      let h = accepted-none (wordReasons rec w) refl (y .0) in
       let l = eqb-true (length w) (placesIn rec) (not-false (eqb (length w) (placesIn rec)) (h .1 .1 .0)) in
       let b = eqb-true (badPlace w) 0 (not-false (eqb (badPlace w) 0) (h .1 .1 .1 .0)) in
       let ms = moduliIn rec in

@@ -1,7 +1,7 @@
 -- What correction answers, leaves and counts, by the first reason that applies; what its proof cites. Assumes nothing.
-use mathlib.Core.Path.{_≡_, sym, ap, ap₂, _∙_}
+use mathlib.Core.Path.{_≡_, refl, sym, ap, ap₂, _∙_}
 use mathlib.Core.Logic.{_≢_}
-use mathlib.Core.List.{List, [], _∷_, _++_}
+use mathlib.Core.List.{List, _++_}
 use Prim.Native.Nat.{ℕ, _+_, _≤_}
 use native.Mathlib.Omega.{arith}
 use borrow.Author.Tests.{eqb-true, le-leb, ltb-false, eqb-false, not-false}
@@ -19,24 +19,20 @@ use Rattle.words.proofs.Rule.{corrected-place}
 use Rattle.words.proofs.Theorem.{word-code, code}
 use Rattle.coder.specs.State.{Fit, moduliIn, placesIn, correctedIn, correctedPlaceIn, fullCount, isBinaryIn, isPairedIn, counted}
 use Rattle.coder.specs.Reasons.{firstReason, badPlace, full}
-use Rattle.coder.specs.Calls.{answerOf, writeReasons, correctReasons, correctAnswer, correctOutput}
+use Rattle.coder.specs.Calls.{answerOf, correctReasons, correctAnswer, correctOutput}
 use Rattle.coder.specs.declared.Record.{Record}
 use Rattle.coder.specs.declared.Answer.{Answer}
-use Rattle.coder.proofs.Firsts.{Numbered, numbered-append, accepted-none}
+use Rattle.coder.proofs.Firsts.{accepted-none}
 use Rattle.coder.proofs.States.{true-fit}
 use Rattle.coder.proofs.Bytes.{none-bits}
-use Rattle.coder.proofs.Outcomes.{if-refused, right-length, write-numbered}
+use Rattle.coder.proofs.Outcomes.{if-refused, right-length}
 use Rattle.coder.proofs.Outputs.{kept}
-
-pub correct-numbered : (rec : Record) (w out : List ℕ) → Numbered (correctReasons rec w (length out))
-correct-numbered rec w out =
-    numbered-append (writeReasons rec (placesIn rec) w (length out)) (full rec ∷ []) (write-numbered rec (placesIn rec) w (length out)) ((λ e. omega arith), tt)
 
 -- what an accepted correction knows: the word is one of n bits, and words is not full
 pub correct-accepted : (rec : Record) (w out : List ℕ) → firstReason (correctReasons rec w (length out)) .number ≡ 0
     → Fit rec × Word (placesIn rec) w × (placesIn rec ≤ length out) × (rec .words ≢ fullCount)
 correct-accepted rec w out e =
-    let h = accepted-none (correctReasons rec w (length out)) (correct-numbered rec w out) e in (
+    let h = accepted-none (correctReasons rec w (length out)) refl e in (
       true-fit rec (h .1 .0),
       record { places = right-length (placesIn rec) w (h .1 .1 .0); bits = none-bits 0 w (eqb-true (badPlace w) 0 (not-false _ (h .1 .1 .1 .1 .0))) },
       ltb-false (length out) (placesIn rec) (h .1 .1 .1 .0),

@@ -2,10 +2,18 @@
 use mathlib.Core.Path.{_≡_, refl, sym, ap, _∙_}
 use mathlib.Core.Logic.{_≢_, inl, inr}
 use mathlib.Core.List.{List, [], _∷_, _++_}
-use mathlib.Core.Bool.{Bool, true, false, true≢false}
-use Prim.Native.Nat.{ℕ}
+use mathlib.Core.Bool.{Bool, true, false, _&&_, true≢false}
+use Prim.Native.Nat.{ℕ, zero, suc, _<_}
+use native.Mathlib.Omega.{arith}
+use lib.Dec.{leb}
+use lib.ListN.{length}
+use borrow.Author.Tests.{ltb-true, leb-true}
 use Rattle.coder.specs.Claims.{NoneApplies, SomeApplies, Given, Refuses}
-use Rattle.coder.specs.Reasons.{Reason, accepted, firstReason, inOrder}
+use Rattle.coder.specs.Reasons.{Reason, accepted, firstReason, order, before, inOrder}
+
+and-true : (a b : Bool) → (a && b) ≡ true → (a ≡ true) × (b ≡ true)
+and-true true b e = (refl, e)
+and-true false b e = absurd (true≢false (sym e))
 
 pub first-yes : (x : Reason) (xs : List Reason) → x .applies ≡ true → firstReason (x ∷ xs) ≡ x
 unfolding firstReason
@@ -34,14 +42,40 @@ pub first-past : (xs ys : List Reason) → NoneApplies xs → firstReason (xs ++
 first-past [] ys h = refl
 first-past (x ∷ xs) ys h = first-no x (xs ++ ys) (h .0) ∙ first-past xs ys (h .1)
 
+-- a last reason that does not apply
+pub first-last : (xs : List Reason) (y : Reason) → y .applies ≡ false → firstReason (xs ++ (y ∷ [])) ≡ firstReason xs
+first-last [] y h = first-no y [] h
+first-last (x ∷ xs) y h = go (first-last xs y h) (x .applies) refl
+  where
+    go : firstReason (xs ++ (y ∷ [])) ≡ firstReason xs → (b : Bool) → x .applies ≡ b → firstReason (x ∷ (xs ++ (y ∷ []))) ≡ firstReason (x ∷ xs)
+    go f true a = first-yes x (xs ++ (y ∷ [])) a ∙ sym (first-yes x xs a)
+    go f false a = first-no x (xs ++ (y ∷ [])) a ∙ f ∙ sym (first-no x xs a)
+
 -- each of the reasons has a number
-abbrev pub Numbered : List Reason → Type 0
+abbrev Numbered : List Reason → Type 0
 Numbered [] = Unit {0}
 Numbered (x ∷ xs) = (x .number ≢ 0) × Numbered xs
 
-pub numbered-append : (xs ys : List Reason) → Numbered xs → Numbered ys → Numbered (xs ++ ys)
-numbered-append [] ys h k = k
-numbered-append (x ∷ xs) ys h k = (h .0, numbered-append xs ys (h .1) k)
+-- reasons that stand in document 01's order have numbers: 0 is not among them
+in-order-first : (x : Reason) (xs : List Reason) → inOrder (x ∷ xs) ≡ true → before order (x .number) < length order
+in-order-first x [] e = ltb-true (before order (x .number)) (length order) e
+in-order-first x (y ∷ xs) e =
+    let a = and-true (leb (before order (x .number)) (before order (y .number))) (inOrder (y ∷ xs)) e in
+    let l = leb-true (before order (x .number)) (before order (y .number)) (a .0) in
+    let m = in-order-first y xs (a .1) in
+    omega arith
+
+in-order-rest : (x : Reason) (xs : List Reason) → inOrder (x ∷ xs) ≡ true → inOrder xs ≡ true
+in-order-rest x [] e = refl
+in-order-rest x (y ∷ xs) e = and-true (leb (before order (x .number)) (before order (y .number))) (inOrder (y ∷ xs)) e .1
+
+in-order-numbered : (rs : List Reason) → inOrder rs ≡ true → Numbered rs
+in-order-numbered [] e = tt
+in-order-numbered (x ∷ xs) e = ((λ z. least (x .number) z (in-order-first x xs e)), in-order-numbered xs (in-order-rest x xs e))
+  where
+    least : (n : ℕ) → n ≡ 0 → before order n < length order → ⊥
+    least zero z l = omega arith
+    least (suc n) z l = omega arith
 
 -- a call is accepted exactly where none of its reasons applies
 pub none-first : (rs : List Reason) → NoneApplies rs → firstReason rs ≡ accepted
@@ -55,13 +89,16 @@ none-append (x ∷ xs) ys h k = (h .0, none-append xs ys (h .1) k)
 pub none-accepted : (rs : List Reason) → NoneApplies rs → firstReason rs .number ≡ 0
 none-accepted rs h = ap (λ (x : Reason). x .number) (none-first rs h)
 
-pub accepted-none : (rs : List Reason) → Numbered rs → firstReason rs .number ≡ 0 → NoneApplies rs
-accepted-none [] k e = tt
-accepted-none (x ∷ xs) k e = go (accepted-none xs (k .1)) (x .applies) refl
+pub accepted-none : (rs : List Reason) → inOrder rs ≡ true → firstReason rs .number ≡ 0 → NoneApplies rs
+accepted-none rs o e = go rs (in-order-numbered rs o) e
   where
-    go : (firstReason xs .number ≡ 0 → NoneApplies xs) → (b : Bool) → x .applies ≡ b → NoneApplies (x ∷ xs)
-    go f true y = absurd (k .0 (sym (ap (λ (x : Reason). x .number) (first-yes x xs y)) ∙ e))
-    go f false y = (y, f (sym (ap (λ (x : Reason). x .number) (first-no x xs y)) ∙ e))
+    go : (rs : List Reason) → Numbered rs → firstReason rs .number ≡ 0 → NoneApplies rs
+    go [] k e = tt
+    go (x ∷ xs) k e = step (go xs (k .1)) (x .applies) refl
+      where
+        step : (firstReason xs .number ≡ 0 → NoneApplies xs) → (b : Bool) → x .applies ≡ b → NoneApplies (x ∷ xs)
+        step f true y = absurd (k .0 (sym (ap (λ (x : Reason). x .number) (first-yes x xs y)) ∙ e))
+        step f false y = (y, f (sym (ap (λ (x : Reason). x .number) (first-no x xs y)) ∙ e))
 
 -- and refused with n exactly where n is that of the first that applies
 pub given-first : (rs : List Reason) (n : ℕ) → Given rs n → firstReason rs .number ≡ n
@@ -112,10 +149,10 @@ no-place (x ∷ xs) h = go (no-place xs (h .1)) (x .applies) refl
     go i false y = ap (λ (x : Reason). x .place) (first-no x xs y) ∙ i
 
 -- ---- the two together
-pub by-first : (x : ℕ) (rs : List Reason) → inOrder rs ≡ true → Numbered rs → x ≡ firstReason rs .number → Refuses x rs
-by-first x rs o k e = record {
+pub by-first : (x : ℕ) (rs : List Reason) → inOrder rs ≡ true → x ≡ firstReason rs .number → Refuses x rs
+by-first x rs o e = record {
   ordered = o;
-  accepts = ((λ h. accepted-none rs k (sym e ∙ h)), (λ h. e ∙ none-accepted rs h));
+  accepts = ((λ h. accepted-none rs o (sym e ∙ h)), (λ h. e ∙ none-accepted rs h));
   refuses = λ n h. ((λ y. first-given rs n h (sym e ∙ y)), (λ g. e ∙ given-first rs n g));
 }
 

@@ -22,7 +22,7 @@ use Rattle.coder.specs.Calls.{thirdReasons, thirdAnswer}
 use Rattle.coder.specs.declared.Record.{Record}
 use Rattle.coder.specs.declared.Answer.{Answer}
 use Rattle.coder.specs.declared.TestAnswer.{TestAnswer}
-use Rattle.coder.proofs.Firsts.{first-yes, Numbered, accepted-none, no-place}
+use Rattle.coder.proofs.Firsts.{first-yes, accepted-none, no-place}
 use Rattle.coder.proofs.States.{state-number, state-fit, fit-true, true-fit, or-false}
 use Rattle.coder.proofs.Answers.{fit-length}
 
@@ -69,29 +69,19 @@ module _ (rec : Record) (s : Shape) (e : (s .places ≡ wordLength rec) × (s .m
   unfolding firstReason
   word-by w = by-lengths (λ n m. wrongLength n w ∷ badByte w ∷ [])
 
--- ---- each reason has a number
-pub word-numbered : (rec : Record) (w : List ℕ) → Numbered (wordReasons rec w)
-word-numbered rec w = ((λ e. omega arith), ((λ e. omega arith), ((λ e. omega arith), ((λ e. omega arith), tt))))
-
-pub write-numbered : (rec : Record) (n : ℕ) (w : List ℕ) (room : ℕ) → Numbered (writeReasons rec n w room)
-write-numbered rec n w room = ((λ e. omega arith), ((λ e. omega arith), ((λ e. omega arith), ((λ e. omega arith), ((λ e. omega arith), tt)))))
-
-pub third-numbered : (rec : Record) (i j : ℕ) → Numbered (thirdReasons rec i j)
-third-numbered rec i j = ((λ e. omega arith), ((λ e. omega arith), ((λ e. omega arith), ((λ e. omega arith), ((λ e. omega arith), tt)))))
-
 -- ---- what an accepted call on a word knows, and what the functions on plain words then answer
 pub right-length : (n : ℕ) (w : List ℕ) → wrongLength n w .applies ≡ false → length w ≡ n
 right-length n w h = eqb-true (length w) n (not-false (eqb (length w) n) h)
 
 pub word-accepted : (rec : Record) (w : List ℕ) → firstReason (wordReasons rec w) .number ≡ 0 → Fit rec × (length w ≡ placesIn rec)
 word-accepted rec w e =
-    let h = accepted-none (wordReasons rec w) (word-numbered rec w) e in
+    let h = accepted-none (wordReasons rec w) refl e in
     (true-fit rec (h .1 .0), right-length (placesIn rec) w (h .1 .1 .0))
 
 pub write-accepted : (rec : Record) (n : ℕ) (w : List ℕ) (room : ℕ) → firstReason (writeReasons rec n w room) .number ≡ 0
     → Fit rec × (length w ≡ n) × (placesIn rec ≤ room)
 write-accepted rec n w room e =
-    let h = accepted-none (writeReasons rec n w room) (write-numbered rec n w room) e in (
+    let h = accepted-none (writeReasons rec n w room) refl e in (
       true-fit rec (h .1 .0),
       right-length n w (h .1 .1 .0),
       ltb-false room (placesIn rec) (h .1 .1 .1 .0),
@@ -102,23 +92,26 @@ pub plain-syndrome : (rec : Record) (w : List ℕ) → Fit rec → length w ≡ 
 unfolding syndromeFor syndromeIn placesIn
 plain-syndrome rec w f l = rw (admitted-admits (rec .t) (rec .r) (f .admitted), le-leb (placesOf (rec .t)) (length w) (omega arith))
 
--- a place that reason 5 does not turn away is one of the code
-inside : (rec : Record) (p : ℕ) → outside rec p .applies ≡ false → isPlace (rec .t) p ≡ true
-unfolding placesIn
-inside rec p h =
-    let a = or-false (eqb p 0) (ltb (placesOf (rec .t)) p) h in
-    let z = eqb-false p 0 (a .0) in
-    let l = ltb-false (placesOf (rec .t)) p (a .1) in
-    rw (le-leb 1 p (positive p z), le-leb p (placesOf (rec .t)) l)
+-- a place to which reason 5 does not apply is one of the code
+pub inside-by : (rec : Record) (p : ℕ) → outside rec p .applies ≡ false → (1 ≤ p) × (p ≤ placesIn rec)
+inside-by rec p h =
+    let a = or-false (eqb p 0) (ltb (placesIn rec) p) h in
+    (positive p (eqb-false p 0 (a .0)), ltb-false (placesIn rec) p (a .1))
   where
     positive : (p : ℕ) → (p ≡ 0 → ⊥) → 1 ≤ p
     positive zero z = absurd (z refl)
     positive (suc p) z = omega arith
 
+inside : (rec : Record) (p : ℕ) → outside rec p .applies ≡ false → isPlace (rec .t) p ≡ true
+unfolding placesIn
+inside rec p h =
+    let a = inside-by rec p h in
+    rw (le-leb 1 p (a .0), le-leb p (placesOf (rec .t)) (a .1))
+
 pub plain-third : (rec : Record) (i j : ℕ) → firstReason (thirdReasons rec i j) .number ≡ 0 → thirdFor (rec .t) (rec .r) i j ≡ thirdIn rec i j
 unfolding thirdFor thirdIn
 plain-third rec i j e =
-    let h = accepted-none (thirdReasons rec i j) (third-numbered rec i j) e in
+    let h = accepted-none (thirdReasons rec i j) refl e in
     rw (
       admitted-admits (rec .t) (rec .r) (true-fit rec (h .1 .0) .admitted),
       inside rec i (h .1 .1 .0),

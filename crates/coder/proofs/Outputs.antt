@@ -1,6 +1,6 @@
 -- What the calls that write a word answer and leave: encoding, the inverse and combining, by the first reason that applies; what their
 -- proofs cite. Assumes nothing.
-use mathlib.Core.Path.{_≡_, sym, ap, _∙_}
+use mathlib.Core.Path.{_≡_, refl, sym, ap, _∙_}
 use mathlib.Core.Logic.{_≢_}
 use mathlib.Core.List.{List, _++_}
 use Prim.Native.Nat.{ℕ, _+_, _≤_}
@@ -16,7 +16,7 @@ use Rattle.coder.specs.Calls.{answerOf, outputOf, encodeReasons, encodeA
 use Rattle.coder.specs.Calls.{combineReasons, combineAnswer, combineOutput}
 use Rattle.coder.specs.declared.Record.{Record}
 use Rattle.coder.specs.declared.Answer.{Answer}
-use Rattle.coder.proofs.Firsts.{Numbered, accepted-none}
+use Rattle.coder.proofs.Firsts.{accepted-none}
 use Rattle.coder.proofs.States.{true-fit}
 use Rattle.coder.proofs.Outcomes.{if-refused, right-length, write-accepted}
 
@@ -71,14 +71,10 @@ module _ (rec : Record) (w out : List ℕ) (a : Answer) where
       (λ z. let q = write-accepted rec (placesIn rec) w (length out) z in plain-invert rec w out (q .0) (q .1) (q .2)) h
 
 -- ---- two words
-pub combine-numbered : (rec : Record) (x y out : List ℕ) → Numbered (combineReasons rec x y (length out))
-combine-numbered rec x y out =
-    ((λ e. omega arith), ((λ e. omega arith), ((λ e. omega arith), ((λ e. omega arith), ((λ e. omega arith), ((λ e. omega arith), ((λ e. omega arith), tt)))))))
-
 pub combine-accepted : (rec : Record) (x y out : List ℕ) → firstReason (combineReasons rec x y (length out)) .number ≡ 0
     → Fit rec × (length x ≡ placesIn rec) × (length y ≡ placesIn rec) × (placesIn rec ≤ length out)
 combine-accepted rec x y out e =
-    let h = accepted-none (combineReasons rec x y (length out)) (combine-numbered rec x y out) e in (
+    let h = accepted-none (combineReasons rec x y (length out)) refl e in (
       true-fit rec (h .1 .0),
       right-length (placesIn rec) x (h .1 .1 .0),
       right-length (placesIn rec) y (h .1 .1 .1 .0),

@@ -11,7 +11,7 @@ use lib.ListN.{length}
 use borrow.Author.Tests.{eqb-true, eqb-false, ltb-true, eq-eqb, ne-eqb, lt-ltb, not-true}
 use Rattle.layout.specs.Parameters.{Admitted, admits}
 use Rattle.layout.proofs.Parameters.{admits-admitted, admitted-admits}
-use Rattle.coder.specs.State.{Fit, fresh, isUnfit, placesIn, messageIn, elementIn, fullCount}
+use Rattle.coder.specs.State.{Fit, fresh, isUnfit, placesIn, elementIn, fullCount}
 use Rattle.coder.specs.Reasons.{notAdmitted, wrongLength, shortOutput, badPlace, badByte, outside, equalPlaces, closed, unfit, full}
 use Rattle.coder.specs.Calls.{inForce, openReasons, opened, layoutReasons, elementAt, wordReasons, syndromeAnswer, codewordAnswer}
 use Rattle.coder.specs.Calls.{correctReasons, correctAnswer, correctOutput, combineReasons, combineAnswer, combineOutput}
@@ -23,50 +23,49 @@ use Rattle.coder.specs.Claims.{Refuses}
 use Rattle.coder.proofs.Firsts.{by-first}
 use Rattle.coder.proofs.States.{fit-true, true-fit}
 use Rattle.coder.proofs.Bytes.{bits-none, none-bits}
-use Rattle.coder.proofs.Outcomes.{if-refused, word-numbered, write-numbered, third-numbered}
-use Rattle.coder.proofs.Outputs.{combine-numbered, encode-kept, combine-kept, invert-kept}
-use Rattle.coder.proofs.Corrections.{correct-numbered}
+use Rattle.coder.proofs.Outcomes.{if-refused}
+use Rattle.coder.proofs.Outputs.{encode-kept, combine-kept, invert-kept}
 use Rattle.coder.proofs.Answers.{opened-yes, opened-no, element-inside, element-refusal, outside-yes}
 
 -- ---- "for those reasons only"
 pub open-refuses : (t r : ℕ) → Refuses (opened t r .refusal) (openReasons t r)
 unfolding opened
-open-refuses t r = by-first (opened t r .refusal) (openReasons t r) refl ((λ e. omega arith), tt) refl
+open-refuses t r = by-first (opened t r .refusal) (openReasons t r) refl refl
 
 pub layout-refuses : (rec : Record) (p : ℕ) → Refuses (elementAt rec p .refusal) (layoutReasons rec p)
 layout-refuses rec p =
-    by-first (elementAt rec p .refusal) (layoutReasons rec p) refl ((λ e. omega arith), ((λ e. omega arith), ((λ e. omega arith), tt)))
+    by-first (elementAt rec p .refusal) (layoutReasons rec p) refl
     (element-refusal rec p)
 
 pub syndrome-refuses : (rec : Record) (w : List ℕ) → Refuses (syndromeAnswer rec w .refusal) (wordReasons rec w)
 unfolding syndromeAnswer
-syndrome-refuses rec w = by-first (syndromeAnswer rec w .refusal) (wordReasons rec w) refl (word-numbered rec w) refl
+syndrome-refuses rec w = by-first (syndromeAnswer rec w .refusal) (wordReasons rec w) refl refl
 
 pub codeword-refuses : (rec : Record) (w : List ℕ) → Refuses (codewordAnswer rec w .refusal) (wordReasons rec w)
 unfolding codewordAnswer
-codeword-refuses rec w = by-first (codewordAnswer rec w .refusal) (wordReasons rec w) refl (word-numbered rec w) refl
+codeword-refuses rec w = by-first (codewordAnswer rec w .refusal) (wordReasons rec w) refl refl
 
 pub encode-refuses : (rec : Record) (m out : List ℕ) → Refuses (encodeAnswer rec m out .refusal) (encodeReasons rec m (length out))
 unfolding encodeAnswer
 encode-refuses rec m out =
-    by-first (encodeAnswer rec m out .refusal) (encodeReasons rec m (length out)) refl (write-numbered rec (messageIn rec) m (length out)) refl
+    by-first (encodeAnswer rec m out .refusal) (encodeReasons rec m (length out)) refl refl
 
 pub correct-refuses : (rec : Record) (w out : List ℕ) → Refuses (correctAnswer rec w out .refusal) (correctReasons rec w (length out))
 unfolding correctAnswer
-correct-refuses rec w out = by-first (correctAnswer rec w out .refusal) (correctReasons rec w (length out)) refl (correct-numbered rec w out) refl
+correct-refuses rec w out = by-first (correctAnswer rec w out .refusal) (correctReasons rec w (length out)) refl refl
 
 pub combine-refuses : (rec : Record) (x y out : List ℕ) → Refuses (combineAnswer rec x y out .refusal) (combineReasons rec x y (length out))
 unfolding combineAnswer
-combine-refuses rec x y out = by-first (combineAnswer rec x y out .refusal) (combineReasons rec x y (length out)) refl (combine-numbered rec x y out) refl
+combine-refuses rec x y out = by-first (combineAnswer rec x y out .refusal) (combineReasons rec x y (length out)) refl refl
 
 pub invert-refuses : (rec : Record) (w out : List ℕ) → Refuses (invertAnswer rec w out .refusal) (invertReasons rec w (length out))
 unfolding invertAnswer
 invert-refuses rec w out =
-    by-first (invertAnswer rec w out .refusal) (invertReasons rec w (length out)) refl (write-numbered rec (placesIn rec) w (length out)) refl
+    by-first (invertAnswer rec w out .refusal) (invertReasons rec w (length out)) refl refl
 
 pub third-refuses : (rec : Record) (i j : ℕ) → Refuses (thirdAnswer rec i j .refusal) (thirdReasons rec i j)
 unfolding thirdAnswer
-third-refuses rec i j = by-first (thirdAnswer rec i j .refusal) (thirdReasons rec i j) refl (third-numbered rec i j) refl
+third-refuses rec i j = by-first (thirdAnswer rec i j .refusal) (thirdReasons rec i j) refl refl
 
 -- "every buffer untouched"
 pub encode-untouched : (rec : Record) (m out : List ℕ) → encodeAnswer rec m out .refusal ≢ 0 → encodeOutput rec m out ≡ out

@@ -21,7 +21,7 @@ pub state-number : (rec : Record) (rs : List Reason) → firstReason (stateReaso
 state-number rec rs h = first-before (stateReasons rec) rs h
 
 pub state-fit : (rec : Record) → firstReason (stateReasons rec) .number ≡ 0 → (isClosed rec ≡ false) × (isUnfit rec ≡ false)
-state-fit rec h = let n = accepted-none (stateReasons rec) ((λ e. omega arith), ((λ e. omega arith), tt)) h in (n .0, n .1 .0)
+state-fit rec h = let n = accepted-none (stateReasons rec) refl h in (n .0, n .1 .0)
 
 pub state-past : (rec : Record) (rs : List Reason) → (isClosed rec ≡ false) × (isUnfit rec ≡ false) → firstReason (stateReasons rec ++ rs) ≡ firstReason rs
 state-past rec rs h = first-past (stateReasons rec) rs (h .0, (h .1, tt))

@@ -19,7 +19,7 @@ use Rattle.coder.specs.declared.Record.{Record}
 use Rattle.coder.specs.Claims.{NoneApplies, SomeApplies, Lowest, TellsPlace, TellsPlaceOfTwo}
 use Rattle.coder.proofs.Firsts.{AllTell, no-place, none-accepted, accepted-none, refused-some, some-refused, first-tells}
 use Rattle.coder.proofs.Bytes.{none-bits, lowest}
-use Rattle.coder.proofs.Outcomes.{if-refused, word-numbered, word-accepted, shown-refused, shown-other, shown-codeword}
+use Rattle.coder.proofs.Outcomes.{if-refused, word-accepted, shown-refused, shown-other, shown-codeword}
 
 -- ---- the place: a reason other than 4 tells 0, and 4 the lowest place
 other : (n : ℕ) (w : List ℕ) → n ≢ 4 → TellsPlace n 0 w
@@ -168,11 +168,11 @@ reads-empty rec w = (to (firstReason (wordReasons rec w) .number) refl (isCodewo
     to (suc n) e b y z = inl (refused-some (wordReasons rec w) (λ q. let c : suc n ≡ 0 = sym e ∙ q in omega arith))
     to zero e false y z = inr y
     to zero e true y z =
-        let l = reads rec w (accepted-none (wordReasons rec w) (word-numbered rec w) e) y .1 in
+        let l = reads rec w (accepted-none (wordReasons rec w) refl e) y .1 in
         absurd (omega (arith, ap length z))
 
     from : SomeApplies (wordReasons rec w) ⊎ (isCodewordIn rec w ≡ false) → shown rec w ≡ []
-    from (inl s) = shown-refused rec w (λ z. some-refused (wordReasons rec w) s (accepted-none (wordReasons rec w) (word-numbered rec w) z))
+    from (inl s) = shown-refused rec w (λ z. some-refused (wordReasons rec w) s (accepted-none (wordReasons rec w) refl z))
     from (inr y) = no (firstReason (wordReasons rec w) .number) refl
       where
         no : (n : ℕ) → firstReason (wordReasons rec w) .number ≡ n → shown rec w ≡ []

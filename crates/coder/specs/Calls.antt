@@ -87,8 +87,12 @@ unfoldable pub shown : Record → List ℕ → List ℕ
 shown rec w = ifAccepted (firstReason (wordReasons rec w) .number) (pick (isCodewordIn rec w) (take (messageIn rec) w) []) []
 
 -- ---- an output that is written: n bytes w are asked of the caller, and an output that has room for a word
+-- those "because of the input" (document 01) come after those of the state
+abbrev pub writeInput : Record → ℕ → List ℕ → ℕ → List Reason
+writeInput rec n w room = wrongLength n w ∷ shortOutput (placesIn rec) room ∷ badByte w ∷ []
+
 abbrev pub writeReasons : Record → ℕ → List ℕ → ℕ → List Reason
-writeReasons rec n w room = stateReasons rec ++ (wrongLength n w ∷ shortOutput (placesIn rec) room ∷ badByte w ∷ [])
+writeReasons rec n w room = stateReasons rec ++ writeInput rec n w room
 
 -- "A longer one keeps its further bytes"; a refusal leaves "every buffer untouched"
 abbrev pub outputOf : Reason → Record → List ℕ → List ℕ → List ℕ
@@ -121,10 +125,13 @@ unfoldable pub correctOutput : Record → List ℕ → List ℕ → List ℕ
 correctOutput rec w out = outputOf (firstReason (correctReasons rec w (length out))) rec (correctedIn rec w) out
 
 -- "Where two words are lent, a fault of the first comes before the same fault of the second." (document 01)
-abbrev pub combineReasons : Record → List ℕ → List ℕ → ℕ → List Reason
-combineReasons rec x y room =
+abbrev pub combineInput : Record → List ℕ → List ℕ → ℕ → List Reason
+combineInput rec x y room =
     let n = placesIn rec in
-    stateReasons rec ++ (wrongLength n x ∷ wrongLength n y ∷ shortOutput n room ∷ badByte x ∷ badByte y ∷ [])
+    wrongLength n x ∷ wrongLength n y ∷ shortOutput n room ∷ badByte x ∷ badByte y ∷ []
+
+abbrev pub combineReasons : Record → List ℕ → List ℕ → ℕ → List Reason
+combineReasons rec x y room = stateReasons rec ++ combineInput rec x y room
 
 unfoldable pub combineAnswer : Record → List ℕ → List ℕ → List ℕ → Answer
 combineAnswer rec x y out = answerOf (firstReason (combineReasons rec x y (length out)))
@@ -142,8 +149,11 @@ unfoldable pub invertOutput : Record → List ℕ → List ℕ → List ℕ
 invertOutput rec w out = outputOf (firstReason (invertReasons rec w (length out))) rec (inverseIn rec w) out
 
 -- ---- the third place
+abbrev pub thirdInput : Record → ℕ → ℕ → List Reason
+thirdInput rec i j = outside rec i ∷ outside rec j ∷ equalPlaces i j ∷ []
+
 abbrev pub thirdReasons : Record → ℕ → ℕ → List Reason
-thirdReasons rec i j = stateReasons rec ++ (outside rec i ∷ outside rec j ∷ equalPlaces i j ∷ [])
+thirdReasons rec i j = stateReasons rec ++ thirdInput rec i j
 
 -- "An accepted call gives number 0, and place 0 unless it is correction or third place."
 unfoldable pub thirdAnswer : Record → ℕ → ℕ → Answer

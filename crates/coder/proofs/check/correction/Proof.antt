@@ -1,7 +1,7 @@
 -- `coder::check::correction` meets its contract: 23 comes after the reasons of an output. Assumes nothing.
 use borrow.Author.Needs.{needs}
 use borrow.Author.Tests.{eq-eqb, ne-eqb}
-use mathlib.Core.Path.{_≡_, sym, ap, _∙_}
+use mathlib.Core.Path.{_≡_, refl, sym, ap, _∙_}
 use mathlib.Core.List.{List, [], _∷_}
 use Rattle.coder.specs.State.{placesIn, fullCount}
 use Rattle.coder.specs.Reasons.{Reason, firstReason, full}
@@ -10,7 +10,6 @@ use Rattle.coder.specs.Claims.{NoneApplies}
 use Rattle.coder.specs.declared.Record.{Record}
 use Rattle.coder.specs.declared.Answer.{Answer}
 use Rattle.coder.proofs.Firsts.{first-yes, first-no, first-end, first-before, first-past, none-first, accepted-none}
-use Rattle.coder.proofs.Outcomes.{write-numbered}
 use Rattle.coder.proofs.check.correction.Statement.{statement}
 use Rattle.coder.proofs.check.correction.Tie as tie
 
@@ -31,7 +30,7 @@ number c = ap (λ (x : Answer). x .refusal) (c .written .ensures)
 past : (c : tie.After-written) → c .written .result .refusal ≡ 0 → NoneApplies (before c)
 past c h =
     let g = c .before .before .args in
-    accepted-none (before c) (write-numbered (given c) (placesIn (given c)) (g .word .now) (g .room)) (sym (number c) ∙ h)
+    accepted-none (before c) refl (sym (number c) ∙ h)
 
 returns : tie.Need-returns
 returns c =

@@ -1,0 +1,57 @@
+-- `z2z4::z2z4_third_place` meets its contract: it is `coder::third_place` with a record just opened. Assumes nothing.
+use borrow.Author.Needs.{needs}
+use mathlib.Core.Path.{sym, ap, subst, _∙_}
+use Prim.Native.Nat.{_<_}
+use native.Mathlib.Omega.{arith}
+use mir.Syntax.{w32}
+use mir.ValLaws.{toZ-ofZ}
+use Rattle.coder.specs.declared.Answer.{Answer}
+use Rattle.coder.proofs.Bounds.{numbers, open-refusal, third-refusal, third-place}
+use Rattle.z2z4.specs.Calls.{signed}
+use Rattle.z2z4.specs.Claims.{thirdTold}
+use Rattle.z2z4.proofs.Opening.{by-refusal, by-record, third}
+use Rattle.z2z4.proofs.z2z4_third_place.Statement.{statement}
+use Rattle.z2z4.proofs.z2z4_third_place.Tie as tie
+
+open-requires : tie.Need-open-requires
+open-requires c κs = search needs
+
+answer-requires : tie.Need-answer-requires
+answer-requires c κs =
+    let g = c .before .before .args in
+    (rw (c .before .«open» .ensures) (let b = open-refusal (g .t) (g .r) in omega arith), (λ e. omega arith))
+
+returns : tie.Need-returns
+returns c =
+    let o = c .before .before .«open» in
+    let g = c .before .before .before .args in
+    let h = c .before .if1 .taken in
+    toZ-ofZ w32 _ (record { sfits = c .answer .ok })
+    ∙ by-refusal (g .t) (g .r) (o .result) (o .ensures) (λ n. signed n 0) (thirdTold (g .i) (g .j)) (c .answer .result) h (c .answer .ensures)
+    ∙ sym (third (g .t) (g .r) (g .i) (g .j) .answers)
+
+third-place-requires : tie.Need-third-place-requires
+third-place-requires c κs = search needs
+
+answer-requires-2 : tie.Need-answer-requires-2
+answer-requires-2 c κs =
+    let q = c in
+    let e = q .third-place .ensures in
+    let a = q .third-place .result in
+    let b : a .refusal < numbers = subst (λ (x : Answer). x .refusal < numbers) (sym e) (third-refusal _ _ _) in
+    (omega arith, (λ z. let p = ap (λ (x : Answer). x .place) e in let l = third-place _ _ _ (sym (ap (λ (x : Answer). x .refusal) e) ∙ z) in omega arith))
+
+returns-2 : tie.Need-returns-2
+returns-2 c =
+    let q = c .before in
+    let o = q .before .before .«open» in
+    let g = q .before .before .before .args in
+    let h = q .before .if1 .left in
+    toZ-ofZ w32 _ (record { sfits = c .answer2 .ok })
+    ∙ by-record (g .t) (g .r) (o .result) (o .ensures) (λ n. signed n 0) (thirdTold (g .i) (g .j)) (c .answer2 .result) h (c .answer2 .ensures ∙ ap (λ (x : Answer). signed (x .refusal) (x .place)) (q .third-place .ensures))
+    ∙ sym (third (g .t) (g .r) (g .i) (g .j) .answers)
+
+pub z2z4-third-place-spec : {M : Type 1} → statement M
+z2z4-third-place-spec =
+    tie.close
+    (tie.spec open-requires answer-requires returns third-place-requires answer-requires-2 returns-2)
