@@ -1,0 +1,76 @@
+//! How words, answers and outputs are shown.
+
+use second::Refusal;
+
+/// What every byte of an output is set to before a call.
+pub const FILL: u8 = 7;
+
+/// Four places a digit, the earlier place the higher bit, zeros after the last place; `?`
+/// for a digit with a byte above 1 among its places.
+pub fn hexadecimal(places: &[u8]) -> String {
+    places.chunks(4).map(hexadecimal_digit).collect()
+}
+
+fn hexadecimal_digit(places: &[u8]) -> char {
+    if places.iter().any(|&byte| byte > 1) {
+        return '?';
+    }
+    let weights = [8, 4, 2, 1];
+    let value: u8 = places
+        .iter()
+        .zip(weights)
+        .map(|(byte, weight)| byte * weight)
+        .sum();
+    char::from(b"0123456789abcdef"[usize::from(value)])
+}
+
+/// The answer as the C calls give it: a refusal is its negated number.
+pub fn signed(answer: Result<u32, Refusal>) -> i64 {
+    match answer {
+        Ok(place) => i64::from(place),
+        Err(refusal) => -i64::from(refusal.number),
+    }
+}
+
+/// The answer of a call and what it left in its output, for words of n places.
+pub fn outcome(answer: Result<u32, Refusal>, output: &[u8], n: usize) -> String {
+    let filled = |bytes: &[u8]| bytes.iter().all(|&byte| byte == FILL);
+    let shown = match answer {
+        Err(_) if filled(output) => "untouched".to_string(),
+        Err(_) => "altered".to_string(),
+        Ok(_) if filled(&output[n..]) => hexadecimal(&output[..n]),
+        Ok(_) => hexadecimal(&output[..n]) + " altered",
+    };
+    format!("{} {shown}", signed(answer))
+}
+
+#[cfg(test)]
+mod tests {
+    use super::*;
+
+    const REFUSED: Result<u32, Refusal> = Err(Refusal {
+        number: 4,
+        place: 2,
+    });
+
+    #[test]
+    fn words_in_hexadecimal() {
+        assert_eq!(hexadecimal(&[1, 1, 0]), "c");
+        assert_eq!(hexadecimal(&[1, 0, 1, 0, 1, 1, 1]), "ae");
+        assert_eq!(hexadecimal(&[0, 0, 0, 1, 0, 1, 7, 0, 1]), "1?8");
+        assert_eq!(hexadecimal(&[]), "");
+    }
+
+    #[test]
+    fn accepted_outcomes() {
+        assert_eq!(outcome(Ok(3), &[1, 1, 0, 7, 7], 3), "3 c");
+        assert_eq!(outcome(Ok(0), &[1, 1, 0, 7, 0], 3), "0 c altered");
+    }
+
+    #[test]
+    fn refused_outcomes() {
+        assert_eq!(outcome(REFUSED, &[7, 7, 7], 3), "-4 untouched");
+        assert_eq!(outcome(REFUSED, &[7, 0, 7], 3), "-4 altered");
+        assert_eq!(outcome(REFUSED, &[], 3), "-4 untouched");
+    }
+}
