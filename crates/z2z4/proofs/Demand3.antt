@@ -9,14 +9,13 @@ use Rattle.layout.specs.Parameters.{Admitted, placesOf, messageOf}
 use Rattle.words.specs.Words.{Word, flip}
 use Rattle.coder.specs.State.{fresh}
 use Rattle.coder.specs.Calls as coder
-use Rattle.coder.specs.Calls.{ifAccepted}
 use Rattle.coder.specs.Demand3.{Own, NotFull, AtWord}
 use Rattle.coder.specs.declared.Record.{Record}
 use Rattle.coder.specs.declared.Opened.{Opened}
 use Rattle.coder.proofs.Refusals.{opens, fresh-fit}
 use Rattle.coder.proofs.Demand3.{demand3}
 use Rattle.z2z4.specs.Calls.{signed, encodeAnswer, correctAnswer, combineAnswer}
-use Rattle.z2z4.specs.Claims.{withOpened, encodeTold, correctTold, combineTold}
+use Rattle.z2z4.specs.Claims.{AsOpened}
 use Rattle.z2z4.specs.Demand3.{Room, encodedFor, correctedFor, combinedFor, AtWordForC, Demand3ForC}
 use Rattle.z2z4.proofs.Opening.{encoded, corrected, combined}
 
@@ -25,36 +24,32 @@ module _ (t r : ℕ) (ok : Admitted t r) where
   abbrev own : Room t → Own t r
   own o = record { given = fresh t r; code = record { isT = refl; isR = refl; fit = fresh-fit t r ok }; output = o .output; enough = o .enough }
 
-  given : {A : Type 0} (x : ℕ → A) (f : Record → A) → withOpened t r x f ≡ f (fresh t r)
-  given x f = ap (λ (o : Opened). ifAccepted (o .refusal) (f (o .«record»)) (x (o .refusal))) (opens t r ok)
+  with-fresh : {A : Type 0} {v : A} {x : ℕ → A} {f : Record → A} → AsOpened t r v x f → v ≡ f (fresh t r)
+  with-fresh {f = f} a =
+      a .given (ap (λ (o : Opened). o .refusal) (opens t r ok)) ∙ ap (λ (o : Opened). f (o .«record»)) (opens t r ok)
 
   module _ (o : Room t) where
     -- what each call does is what the coder's call does with that record
     encode-answers : (m : List ℕ) → coder.encodeAnswer (fresh t r) m (o .output) .refusal ≡ 0 → encodeAnswer t r m (o .output) ≡ pos 0
-    encode-answers m h =
-        encoded t r m (o .output) .answers ∙ given (λ n. signed n 0) (encodeTold m (o .output)) ∙ ap (λ (n : ℕ). signed n 0) h
+    encode-answers m h = with-fresh (encoded t r m (o .output) .answers) ∙ ap (λ (n : ℕ). signed n 0) h
 
     encode-writes : (m : List ℕ) → encodedFor t r m (o .output) ≡ take (placesOf t) (coder.encodeOutput (fresh t r) m (o .output))
-    encode-writes m =
-        ap (take (placesOf t)) (encoded t r m (o .output) .writes ∙ given (λ n. o .output) (λ rec. coder.encodeOutput rec m (o .output)))
+    encode-writes m = ap (take (placesOf t)) (with-fresh (encoded t r m (o .output) .writes))
 
     combine-answers : (x y : List ℕ) → coder.combineAnswer (fresh t r) x y (o .output) .refusal ≡ 0 → combineAnswer t r x y (o .output) ≡ pos 0
-    combine-answers x y h =
-        combined t r x y (o .output) .answers ∙ given (λ n. signed n 0) (combineTold x y (o .output)) ∙ ap (λ (n : ℕ). signed n 0) h
+    combine-answers x y h = with-fresh (combined t r x y (o .output) .answers) ∙ ap (λ (n : ℕ). signed n 0) h
 
     combine-writes : (x y : List ℕ) → combinedFor t r x y (o .output) ≡ take (placesOf t) (coder.combineOutput (fresh t r) x y (o .output))
-    combine-writes x y =
-        ap (take (placesOf t)) (combined t r x y (o .output) .writes ∙ given (λ n. o .output) (λ rec. coder.combineOutput rec x y (o .output)))
+    combine-writes x y = ap (take (placesOf t)) (with-fresh (combined t r x y (o .output) .writes))
 
     correct-answers : (w : List ℕ) → coder.correctAnswer (fresh t r) w (o .output) .refusal ≡ 0
         → correctAnswer t r w (o .output) ≡ pos (coder.correctAnswer (fresh t r) w (o .output) .place)
     correct-answers w h =
-        corrected t r w (o .output) .answers ∙ given (λ n. signed n 0) (correctTold w (o .output))
+        with-fresh (corrected t r w (o .output) .answers)
         ∙ ap (λ (n : ℕ). signed n (coder.correctAnswer (fresh t r) w (o .output) .place)) h
 
     correct-writes : (w : List ℕ) → correctedFor t r w (o .output) ≡ take (placesOf t) (coder.correctOutput (fresh t r) w (o .output))
-    correct-writes w =
-        ap (take (placesOf t)) (corrected t r w (o .output) .writes ∙ given (λ n. o .output) (λ rec. coder.correctOutput rec w (o .output)))
+    correct-writes w = ap (take (placesOf t)) (with-fresh (corrected t r w (o .output) .writes))
 
   not-full : (o : Room t) → NotFull (own o)
   not-full o z = omega arith

@@ -3,7 +3,7 @@
 use mathlib.Core.Path.{_≡_, refl, sym, ap, subst, _∙_}
 use mathlib.Core.Logic.{_≢_}
 use mathlib.Core.List.{List, _++_}
-use Prim.Native.Nat.{ℕ, zero, suc}
+use Prim.Native.Nat.{ℕ, zero, suc, _<_, _^_}
 use native.Mathlib.Omega.{arith}
 use lib.ListN.{length, drop}
 use Rattle.coder.specs.State.{Fit, placesIn, messageIn, encodedIn, correctedIn, correctedPlaceIn, combineIn, thirdIn}
@@ -14,23 +14,25 @@ use Rattle.coder.specs.declared.Record.{Record}
 use Rattle.coder.specs.declared.Opened.{Opened}
 use Rattle.coder.proofs.Firsts.{first-before, first-past, first-last, accepted-none}
 use Rattle.coder.proofs.States.{fit-true, state-past}
-use Rattle.coder.proofs.Outcomes.{if-refused}
 use Rattle.coder.proofs.Refusals.{opened-fresh, opened-fit}
+use Rattle.coder.proofs.Bounds.{numbers, open-refusal}
 use Rattle.z2z4.specs.Calls.{signed, codeFor, callReasons, encodeAnswer, encodeOutput, correctAnswer, correctOutput}
 use Rattle.z2z4.specs.Calls.{combineAnswer, combineOutput, thirdAnswer}
-use Rattle.z2z4.specs.Claims.{withOpened, encodeTold, correctTold, combineTold, thirdTold, Encoded, Corrected, Combined, Third}
+use Rattle.z2z4.specs.Claims.{AsOpened, encodeTold, correctTold, combineTold, thirdTold, Encoded, Corrected, Combined, Third}
 
--- ---- what comes of opening, by the record o that it gave
-module _ {A : Type 0} (t r : ℕ) (o : Opened) (e : o ≡ opened t r) (x : ℕ → A) (given : Record → A) (z : A) where
-  pub by-refusal : o .refusal ≢ 0 → z ≡ x (o .refusal) → z ≡ withOpened t r x given
-  by-refusal h f =
-      f ∙ sym (if-refused (o .refusal) (given (o .«record»)) (x (o .refusal)) h)
-      ∙ ap (λ (o : Opened). ifAccepted (o .refusal) (given (o .«record»)) (x (o .refusal))) e
+-- ---- what a call makes of an opening that answered o: z, where v is what comes of opening
+module _ {A : Type 0} {t r : ℕ} {v z : A} {x : ℕ → A} {f : Record → A} {o : Opened} (a : AsOpened t r v x f) (e : o ≡ opened t r) where
+  pub by-refusal : o .refusal ≢ 0 → z ≡ x (o .refusal) → z ≡ v
+  by-refusal h y = y ∙ ap (λ (o : Opened). x (o .refusal)) e ∙ sym (a .refused (λ n. h (ap (λ (o : Opened). o .refusal) e ∙ n)))
 
-  pub by-record : o .refusal ≡ 0 → z ≡ given (o .«record») → z ≡ withOpened t r x given
-  by-record h f =
-      f ∙ sym (ap (λ (n : ℕ). ifAccepted n (given (o .«record»)) (x (o .refusal))) h)
-      ∙ ap (λ (o : Opened). ifAccepted (o .refusal) (given (o .«record»)) (x (o .refusal))) e
+  pub by-record : o .refusal ≡ 0 → z ≡ f (o .«record») → z ≡ v
+  by-record h y = y ∙ ap (λ (o : Opened). f (o .«record»)) e ∙ sym (a .given (sym (ap (λ (o : Opened). o .refusal) e) ∙ h))
+
+-- opening's refusal can be told as a signed number
+pub open-told : (t r : ℕ) {o : Opened} → o ≡ opened t r → (o .refusal < 2 ^ 31) × (o .refusal ≡ 0 → 0 < 2 ^ 31)
+open-told t r {o} e =
+    let b : o .refusal < numbers = subst (λ (o : Opened). o .refusal < numbers) (sym e) (open-refusal t r) in
+    (omega arith, (λ z. omega arith))
 
 -- ---- the first reason
 module _ (t r : ℕ) where
@@ -50,18 +52,18 @@ module _ (t r : ℕ) where
       ∙ sym (state-past (codeFor t r) rs (fit-true (codeFor t r) f))
 
   -- what f makes of the first reason's number is x of it where opening is refused, and else what is known of the code
-  made : {A : Type 0} (rs : List Reason) (f x : ℕ → A) (given : Record → A) → ((n : ℕ) → f (suc n) ≡ x (suc n))
-      → f (firstReason (stateReasons (codeFor t r) ++ rs) .number) ≡ given (codeFor t r)
-      → f (firstReason (callReasons t r rs) .number) ≡ withOpened t r x given
-  made {A} rs f x given same known = go (opened t r .refusal) refl
+  made : {A : Type 0} (rs : List Reason) (f x : ℕ → A) (g : Record → A) → ((n : ℕ) → f (suc n) ≡ x (suc n))
+      → f (firstReason (stateReasons (codeFor t r) ++ rs) .number) ≡ g (codeFor t r)
+      → AsOpened t r (f (firstReason (callReasons t r rs) .number)) x g
+  made rs f x g same known =
+      record {
+        refused = λ h. ap f (stopped rs h) ∙ positive (opened t r .refusal) h;
+        given = λ e. ap (λ (y : Reason). f (y .number)) (past rs e) ∙ known ∙ ap g (sym (opened-fresh t r e));
+      }
     where
-      go : (n : ℕ) → opened t r .refusal ≡ n → f (firstReason (callReasons t r rs) .number) ≡ withOpened t r x given
-      go zero e =
-          by-record t r (opened t r) refl x given _ e
-          (ap (λ (y : Reason). f (y .number)) (past rs e) ∙ known ∙ ap given (sym (opened-fresh t r e)))
-      go (suc n) e =
-          let h : opened t r .refusal ≢ 0 = λ z. omega arith in
-          by-refusal t r (opened t r) refl x given _ h (ap f (stopped rs h ∙ e) ∙ same n ∙ ap x (sym e))
+      positive : (n : ℕ) → n ≢ 0 → f n ≡ x n
+      positive zero h = absurd (h refl)
+      positive (suc n) h = same n
 
 -- a place p of its own is told only where the call is accepted
 told : (x : Reason) (p : ℕ) → signed (x .number) p ≡ signed (x .number) (ifAccepted (x .number) p (x .place))

@@ -1,17 +1,19 @@
 -- The words in which the theorems on the calls for C are stated: they are the coder's calls with a record just opened, and refuse for
 -- their reasons only. Assumes nothing.
 use mathlib.Core.Path.{_≡_}
+use mathlib.Core.Logic.{_≢_}
 use mathlib.Core.List.{List}
 use Prim.Native.Nat.{ℕ, suc}
 use lib.IntN.{ℤ, pos, negsuc}
 use Rattle.coder.specs.Calls as coder
-use Rattle.coder.specs.Calls.{ifAccepted, opened}
+use Rattle.coder.specs.Calls.{opened}
 use Rattle.coder.specs.declared.Record.{Record}
 use Rattle.z2z4.specs.Calls.{signed, encodeAnswer, encodeOutput, correctAnswer, correctOutput, combineAnswer, combineOutput, thirdAnswer}
 
--- what comes of opening with t and r: of the number where it is refused, else of the record that it gives
-abbrev pub withOpened : {A : Type 0} → ℕ → ℕ → (ℕ → A) → (Record → A) → A
-withOpened t r refused given = ifAccepted (opened t r .refusal) (given (opened t r .«record»)) (refused (opened t r .refusal))
+-- v is what comes of opening with t and r: x of the number where it is refused, else f of the record that it gives
+pub record AsOpened {A : Type 0} (t r : ℕ) (v : A) (x : ℕ → A) (f : Record → A) : Type 0 where
+  pub refused : opened t r .refusal ≢ 0 → v ≡ x (opened t r .refusal)
+  pub given : opened t r .refusal ≡ 0 → v ≡ f (opened t r .«record»)
 
 -- what is told to C of the coder's answers: a refusal, or the place in correction and third place
 abbrev pub encodeTold : List ℕ → List ℕ → Record → ℤ
@@ -28,19 +30,19 @@ thirdTold i j rec = signed (coder.thirdAnswer rec i j .refusal) (coder.thirdAnsw
 
 -- each call for C is the coder's call with a record just opened; where opening is refused, its number is told and nothing is written
 pub record Encoded (t r : ℕ) (m out : List ℕ) : Type 0 where
-  pub answers : encodeAnswer t r m out ≡ withOpened t r (λ n. signed n 0) (encodeTold m out)
-  pub writes : encodeOutput t r m out ≡ withOpened t r (λ n. out) (λ rec. coder.encodeOutput rec m out)
+  pub answers : AsOpened t r (encodeAnswer t r m out) (λ n. signed n 0) (encodeTold m out)
+  pub writes : AsOpened t r (encodeOutput t r m out) (λ n. out) (λ rec. coder.encodeOutput rec m out)
 
 pub record Corrected (t r : ℕ) (w out : List ℕ) : Type 0 where
-  pub answers : correctAnswer t r w out ≡ withOpened t r (λ n. signed n 0) (correctTold w out)
-  pub writes : correctOutput t r w out ≡ withOpened t r (λ n. out) (λ rec. coder.correctOutput rec w out)
+  pub answers : AsOpened t r (correctAnswer t r w out) (λ n. signed n 0) (correctTold w out)
+  pub writes : AsOpened t r (correctOutput t r w out) (λ n. out) (λ rec. coder.correctOutput rec w out)
 
 pub record Combined (t r : ℕ) (x y out : List ℕ) : Type 0 where
-  pub answers : combineAnswer t r x y out ≡ withOpened t r (λ n. signed n 0) (combineTold x y out)
-  pub writes : combineOutput t r x y out ≡ withOpened t r (λ n. out) (λ rec. coder.combineOutput rec x y out)
+  pub answers : AsOpened t r (combineAnswer t r x y out) (λ n. signed n 0) (combineTold x y out)
+  pub writes : AsOpened t r (combineOutput t r x y out) (λ n. out) (λ rec. coder.combineOutput rec x y out)
 
 pub record Third (t r i j : ℕ) : Type 0 where
-  pub answers : thirdAnswer t r i j ≡ withOpened t r (λ n. signed n 0) (thirdTold i j)
+  pub answers : AsOpened t r (thirdAnswer t r i j) (λ n. signed n 0) (thirdTold i j)
 
 -- the refusal that an answer tells, 0 where the call is accepted
 abbrev pub refusalOf : ℤ → ℕ

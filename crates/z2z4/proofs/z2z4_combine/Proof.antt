@@ -5,12 +5,10 @@ use Prim.Native.Nat.{_<_}
 use native.Mathlib.Omega.{arith}
 use mir.Syntax.{w32}
 use mir.ValLaws.{toZ-ofZ}
-use Rattle.coder.specs.Calls.{combineOutput}
 use Rattle.coder.specs.declared.Answer.{Answer}
-use Rattle.coder.proofs.Bounds.{numbers, open-refusal, combine-refusal}
+use Rattle.coder.proofs.Bounds.{numbers, combine-refusal}
 use Rattle.z2z4.specs.Calls.{signed}
-use Rattle.z2z4.specs.Claims.{combineTold}
-use Rattle.z2z4.proofs.Opening.{by-refusal, by-record, combined}
+use Rattle.z2z4.proofs.Opening.{by-refusal, by-record, open-told, combined}
 use Rattle.z2z4.proofs.z2z4_combine.Statement.{statement}
 use Rattle.z2z4.proofs.z2z4_combine.Tie as tie
 
@@ -18,20 +16,15 @@ open-requires : tie.Need-open-requires
 open-requires c κs = search needs
 
 answer-requires : tie.Need-answer-requires
-answer-requires c κs =
-    let g = c .before .before .before .before .before .args in
-    (rw (c .before .«open» .ensures) (let b = open-refusal (g .t) (g .r) in omega arith), (λ e. omega arith))
+answer-requires c κs = open-told _ _ (c .before .«open» .ensures)
 
 returns : tie.Need-returns
 returns c =
-    let o = c .before .before .«open» in
+    let o = c .before .before .«open» .ensures in
     let g = c .before .before .before .before .before .before .args in
     let h = c .before .if1 .taken in (
-      toZ-ofZ w32 _ (record { sfits = c .answer .ok })
-          ∙ by-refusal (g .t) (g .r) (o .result) (o .ensures) (λ n. signed n 0) (combineTold (g .first .now) (g .second .now) (g .out .now)) (c .answer .result) h (c .answer .ensures)
-          ∙ sym (combined (g .t) (g .r) (g .first .now) (g .second .now) (g .out .now) .answers),
-      by-refusal (g .t) (g .r) (o .result) (o .ensures) (λ n. g .out .now) (λ rec. combineOutput rec (g .first .now) (g .second .now) (g .out .now)) (g .out .now) h refl
-          ∙ sym (combined (g .t) (g .r) (g .first .now) (g .second .now) (g .out .now) .writes),
+      toZ-ofZ w32 _ (record { sfits = c .answer .ok }) ∙ by-refusal (combined (g .t) (g .r) (g .first .now) (g .second .now) (g .out .now) .answers) o h (c .answer .ensures),
+      by-refusal (combined (g .t) (g .r) (g .first .now) (g .second .now) (g .out .now) .writes) o h refl,
     )
 
 combine-requires : tie.Need-combine-requires
@@ -51,14 +44,12 @@ same-length c = search needs
 returns-2 : tie.Need-returns-2
 returns-2 c =
     let q = c .before .before .before in
-    let o = q .before .before .before .«open» in
+    let o = q .before .before .before .«open» .ensures in
     let g = q .before .before .before .before .before .before .before .args in
     let h = q .before .before .if1 .left in (
       toZ-ofZ w32 _ (record { sfits = c .answer2 .ok })
-          ∙ by-record (g .t) (g .r) (o .result) (o .ensures) (λ n. signed n 0) (combineTold (g .first .now) (g .second .now) (g .out .now)) (c .answer2 .result) h (c .answer2 .ensures ∙ ap (λ (x : Answer). signed (x .refusal) 0) (q .combine .ensures .0))
-          ∙ sym (combined (g .t) (g .r) (g .first .now) (g .second .now) (g .out .now) .answers),
-      by-record (g .t) (g .r) (o .result) (o .ensures) (λ n. g .out .now) (λ rec. combineOutput rec (g .first .now) (g .second .now) (g .out .now)) _ h (q .combine .ensures .1)
-          ∙ sym (combined (g .t) (g .r) (g .first .now) (g .second .now) (g .out .now) .writes),
+          ∙ by-record (combined (g .t) (g .r) (g .first .now) (g .second .now) (g .out .now) .answers) o h (c .answer2 .ensures ∙ ap (λ (x : Answer). signed (x .refusal) 0) (q .combine .ensures .0)),
+      by-record (combined (g .t) (g .r) (g .first .now) (g .second .now) (g .out .now) .writes) o h (q .combine .ensures .1),
     )
 
 pub z2z4-combine-spec : {M : Type 1} → statement M

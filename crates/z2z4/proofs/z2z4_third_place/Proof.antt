@@ -6,10 +6,9 @@ use native.Mathlib.Omega.{arith}
 use mir.Syntax.{w32}
 use mir.ValLaws.{toZ-ofZ}
 use Rattle.coder.specs.declared.Answer.{Answer}
-use Rattle.coder.proofs.Bounds.{numbers, open-refusal, third-refusal, third-place}
+use Rattle.coder.proofs.Bounds.{numbers, third-refusal, third-place}
 use Rattle.z2z4.specs.Calls.{signed}
-use Rattle.z2z4.specs.Claims.{thirdTold}
-use Rattle.z2z4.proofs.Opening.{by-refusal, by-record, third}
+use Rattle.z2z4.proofs.Opening.{by-refusal, by-record, open-told, third}
 use Rattle.z2z4.proofs.z2z4_third_place.Statement.{statement}
 use Rattle.z2z4.proofs.z2z4_third_place.Tie as tie
 
@@ -17,18 +16,14 @@ open-requires : tie.Need-open-requires
 open-requires c κs = search needs
 
 answer-requires : tie.Need-answer-requires
-answer-requires c κs =
-    let g = c .before .before .args in
-    (rw (c .before .«open» .ensures) (let b = open-refusal (g .t) (g .r) in omega arith), (λ e. omega arith))
+answer-requires c κs = open-told _ _ (c .before .«open» .ensures)
 
 returns : tie.Need-returns
 returns c =
-    let o = c .before .before .«open» in
+    let o = c .before .before .«open» .ensures in
     let g = c .before .before .before .args in
     let h = c .before .if1 .taken in
-    toZ-ofZ w32 _ (record { sfits = c .answer .ok })
-    ∙ by-refusal (g .t) (g .r) (o .result) (o .ensures) (λ n. signed n 0) (thirdTold (g .i) (g .j)) (c .answer .result) h (c .answer .ensures)
-    ∙ sym (third (g .t) (g .r) (g .i) (g .j) .answers)
+    toZ-ofZ w32 _ (record { sfits = c .answer .ok }) ∙ by-refusal (third (g .t) (g .r) (g .i) (g .j) .answers) o h (c .answer .ensures)
 
 third-place-requires : tie.Need-third-place-requires
 third-place-requires c κs = search needs
@@ -44,12 +39,11 @@ answer-requires-2 c κs =
 returns-2 : tie.Need-returns-2
 returns-2 c =
     let q = c .before in
-    let o = q .before .before .«open» in
+    let o = q .before .before .«open» .ensures in
     let g = q .before .before .before .args in
     let h = q .before .if1 .left in
     toZ-ofZ w32 _ (record { sfits = c .answer2 .ok })
-    ∙ by-record (g .t) (g .r) (o .result) (o .ensures) (λ n. signed n 0) (thirdTold (g .i) (g .j)) (c .answer2 .result) h (c .answer2 .ensures ∙ ap (λ (x : Answer). signed (x .refusal) (x .place)) (q .third-place .ensures))
-    ∙ sym (third (g .t) (g .r) (g .i) (g .j) .answers)
+    ∙ by-record (third (g .t) (g .r) (g .i) (g .j) .answers) o h (c .answer2 .ensures ∙ ap (λ (x : Answer). signed (x .refusal) (x .place)) (q .third-place .ensures))
 
 pub z2z4-third-place-spec : {M : Type 1} → statement M
 z2z4-third-place-spec =
