@@ -22,9 +22,10 @@ returns : tie.Need-returns
 returns c =
     let o = c .before .before .«open» .ensures in
     let g = c .before .before .before .before .before .args in
-    let h = c .before .if1 .taken in (
-      toZ-ofZ w32 _ (record { sfits = c .answer .ok }) ∙ by-refusal (encoded (g .t) (g .r) (g .message .now) (g .out .now) .answers) o h (c .answer .ensures),
-      by-refusal (encoded (g .t) (g .r) (g .message .now) (g .out .now) .writes) o h refl,
+    let h = c .before .if1 .taken in
+    let y = encoded (g .t) (g .r) (g .message .now) (g .out .now) in (
+      toZ-ofZ w32 _ (record { sfits = c .answer .ok }) ∙ by-refusal (y .answers) o h (c .answer .ensures),
+      by-refusal (y .writes) o h refl,
     )
 
 encode-requires : tie.Need-encode-requires
@@ -46,10 +47,11 @@ returns-2 c =
     let q = c .before .before .before in
     let o = q .before .before .before .«open» .ensures in
     let g = q .before .before .before .before .before .before .args in
-    let h = q .before .before .if1 .left in (
+    let h = q .before .before .if1 .left in
+    let y = encoded (g .t) (g .r) (g .message .now) (g .out .now) in (
       toZ-ofZ w32 _ (record { sfits = c .answer2 .ok })
-          ∙ by-record (encoded (g .t) (g .r) (g .message .now) (g .out .now) .answers) o h (c .answer2 .ensures ∙ ap (λ (x : Answer). signed (x .refusal) 0) (q .encode .ensures .0)),
-      by-record (encoded (g .t) (g .r) (g .message .now) (g .out .now) .writes) o h (q .encode .ensures .1),
+          ∙ by-record (y .answers) o h (c .answer2 .ensures ∙ ap (λ (x : Answer). signed (x .refusal) 0) (q .encode .ensures .0)),
+      by-record (y .writes) o h (q .encode .ensures .1),
     )
 
 pub z2z4-encode-spec : {M : Type 1} → statement M

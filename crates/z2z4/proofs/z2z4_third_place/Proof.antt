@@ -23,7 +23,8 @@ returns c =
     let o = c .before .before .«open» .ensures in
     let g = c .before .before .before .args in
     let h = c .before .if1 .taken in
-    toZ-ofZ w32 _ (record { sfits = c .answer .ok }) ∙ by-refusal (third (g .t) (g .r) (g .i) (g .j) .answers) o h (c .answer .ensures)
+    let y = third (g .t) (g .r) (g .i) (g .j) in
+    toZ-ofZ w32 _ (record { sfits = c .answer .ok }) ∙ by-refusal (y .answers) o h (c .answer .ensures)
 
 third-place-requires : tie.Need-third-place-requires
 third-place-requires c κs = search needs
@@ -42,8 +43,9 @@ returns-2 c =
     let o = q .before .before .«open» .ensures in
     let g = q .before .before .before .args in
     let h = q .before .if1 .left in
+    let y = third (g .t) (g .r) (g .i) (g .j) in
     toZ-ofZ w32 _ (record { sfits = c .answer2 .ok })
-    ∙ by-record (third (g .t) (g .r) (g .i) (g .j) .answers) o h (c .answer2 .ensures ∙ ap (λ (x : Answer). signed (x .refusal) (x .place)) (q .third-place .ensures))
+    ∙ by-record (y .answers) o h (c .answer2 .ensures ∙ ap (λ (x : Answer). signed (x .refusal) (x .place)) (q .third-place .ensures))
 
 pub z2z4-third-place-spec : {M : Type 1} → statement M
 z2z4-third-place-spec =
