@@ -1,9 +1,9 @@
 //! 1-perfect Z2Z4-additive codes as Borges and Rifà describe them in section VI of "A
 //! Characterization of 1-Perfect Additive Codes" (source document 000).
 //!
-//! This second program is there to be compared with the engine, so it shares no code, table
-//! or formula with it: it has only the paper's array, sums over it and searches in it.
-//! Parameters, order of places and refusals are those of document 01.
+//! This second program is there to be compared with the engine, so it shares no code or table
+//! with it: it has only the paper's array, sums over it and searches in it. Parameters,
+//! element numbers, order of places and refusals are those of document 01.
 
 #![forbid(unsafe_code)]
 
