@@ -8,7 +8,7 @@ PLOT = $(OUT)/bench.svg
 WARN := -std=c99 -pedantic -Wall -Wextra -Werror
 SANITIZE := -fsanitize=address,undefined -fno-sanitize-recover=all
 OUT := target/host
-CARGO = CARGO_TARGET_DIR=$(abspath $(OUT)/rust) Z2Z4_LIB_DIR=$(abspath $(dir $(LIBRARY))) cargo
+CARGO = CARGO_TARGET_DIR="$(CURDIR)/$(OUT)/rust" Z2Z4_LIB_DIR="$(CURDIR)/$(OUT)/lib" cargo
 MANIFEST := --offline --release --manifest-path host/rust/Cargo.toml
 # $(call need,TOOL,TARGET) ends with one clear line where the tool is missing
 need = @command -v $(1) >/dev/null || { echo "make $(2) needs $(1) on the PATH" >&2; exit 2; }
@@ -16,8 +16,8 @@ need = @command -v $(1) >/dev/null || { echo "make $(2) needs $(1) on the PATH" 
 .PHONY: all library example check check-c check-rust expected compare fuzz bench install uninstall clean help FORCE
 all: library example
 
-# LIBRARY=path/to/libz2z4.a takes a library that is there already: nothing is proved, and rt is not needed.
-ifdef LIBRARY
+# `make LIBRARY=path/to/libz2z4.a ..` takes a library that is there already: nothing is proved, and rt is not needed.
+ifeq ($(origin LIBRARY),command line)
 $(LIBRARY):
 	@echo "there is no library $@" >&2; exit 2
 else
@@ -28,6 +28,12 @@ $(LIBRARY): FORCE
 	rt staticlib z2z4
 endif
 library: $(LIBRARY)
+
+# what the tests link: a copy that is renewed where the library differs, so that none runs with another one
+LINKED := $(OUT)/lib/libz2z4.a
+$(LINKED): $(LIBRARY) FORCE
+	@mkdir -p $(OUT)/lib
+	@cmp -s $(LIBRARY) $@ || cp $(LIBRARY) $@
 
 help:
 	@echo "library         prove the crates and write target/staticlib/libz2z4.a (LIBRARY=path: take that one instead)"
@@ -44,79 +50,83 @@ $(OUT):
 	mkdir -p $@
 
 example: $(OUT)/example
-$(OUT)/example: host/c/example.c include/z2z4.h $(LIBRARY) | $(OUT)
+$(OUT)/example: host/c/example.c include/z2z4.h $(LINKED) | $(OUT)
 	$(call need,$(CC),example)
-	$(CC) $(WARN) -O2 -Iinclude $< $(LIBRARY) -o $@
+	$(CC) $(WARN) -O2 -Iinclude $< $(LINKED) -o $@
 
 # the program by tables, optimized as it is timed
 $(OUT)/table.o: host/c/table.c host/c/table.h include/z2z4.h | $(OUT)
 	$(call need,$(CC),check)
 	$(CC) $(WARN) -O3 -Iinclude -c $< -o $@
 
-$(OUT)/%_test: host/c/%_test.c host/c/testing.h host/c/table.h include/z2z4.h $(OUT)/table.o $(LIBRARY)
-	$(CC) $(WARN) -O1 -g -Iinclude $< $(OUT)/table.o $(LIBRARY) -o $@
+$(OUT)/%_test: host/c/%_test.c host/c/testing.h host/c/table.h include/z2z4.h $(OUT)/table.o $(LINKED)
+	$(CC) $(WARN) -O1 -g -Iinclude $< $(OUT)/table.o $(LINKED) -o $@
 
 check: check-c check-rust
 
 # calls_test runs with the sanitizers and under valgrind; one of the two may be missing, and is then named.
-check-c: $(OUT)/example $(OUT)/calls_test $(OUT)/table_test
+check-c: $(OUT)/example $(OUT)/calls_test $(OUT)/table_test $(OUT)/long_test
 	$(call need,$(CXX),check)
 	$(CC) $(WARN) -fsyntax-only include/z2z4.h
 	$(CC) $(WARN) -std=c11 -fsyntax-only include/z2z4.h
 	$(CXX) -pedantic -Wall -Wextra -Werror -fsyntax-only -x c++ include/z2z4.h
 	$(OUT)/example | diff host/c/example.out -
 	$(OUT)/table_test
+	$(OUT)/long_test
 	@set -e; ran=no; \
 	if echo 'int main(void) { return 0; }' | $(CC) $(SANITIZE) -x c - -o $(OUT)/probe 2>$(OUT)/probe.log; then \
 	    echo "calls_test with the sanitizers"; ran=yes; \
-	    $(CC) $(WARN) $(SANITIZE) -O1 -g -Iinclude host/c/calls_test.c $(LIBRARY) -o $(OUT)/sanitized; $(OUT)/sanitized; \
+	    $(CC) $(WARN) $(SANITIZE) -O1 -g -Iinclude host/c/calls_test.c $(LINKED) -o $(OUT)/sanitized; $(OUT)/sanitized; \
 	else echo "check: $(CC) has no sanitizers, that run is left out"; fi; \
 	if command -v valgrind >/dev/null; then \
 	    echo "calls_test under valgrind"; ran=yes; valgrind --error-exitcode=1 -q $(OUT)/calls_test; \
 	else echo "check: no valgrind on the PATH, that run is left out"; fi; \
 	test $$ran = yes || { echo "make check needs valgrind or the sanitizers of $(CC)" >&2; exit 2; }
 
-check-rust: library
+check-rust: $(LINKED)
 	$(call need,cargo,check)
-	$(CARGO) test $(MANIFEST)
+	+$(CARGO) test $(MANIFEST)
 
 expected: | $(OUT)
 	$(call need,cargo,expected)
-	$(CARGO) run $(MANIFEST) -p second --bin expected >$(OUT)/expected
+	+$(CARGO) run $(MANIFEST) -p second --bin expected >$(OUT)/expected
 	mv $(OUT)/expected crates/larger/stdout
 
-compare: library
+compare: $(LINKED)
 	$(call need,cargo,compare)
-	$(CARGO) run $(MANIFEST) -p compare -- --calls $(CALLS)
+	+$(CARGO) run $(MANIFEST) -p compare -- --calls $(CALLS)
 
-bench: library
+bench: $(LINKED)
 	$(call need,cargo,bench)
 	$(call need,$(CC),bench)
-	$(CARGO) run $(MANIFEST) -p bench -- --plot $(abspath $(PLOT))
+	+$(CARGO) run $(MANIFEST) -p bench -- --plot "$(PLOT)"
 
 # libFuzzer is guided by the branches of the second program, which is built for it with counters of them
 COUNTERS := -Cpasses=sancov-module -Cllvm-args=-sanitizer-coverage-level=3 \
     -Cllvm-args=-sanitizer-coverage-inline-8bit-counters -Cllvm-args=-sanitizer-coverage-pc-table
-fuzz: $(LIBRARY) | $(OUT)
+fuzz: $(LINKED)
 	$(call need,cargo,fuzz)
 	$(call need,clang,fuzz)
 	@echo 'int LLVMFuzzerTestOneInput(void); int LLVMFuzzerTestOneInput(void) { return 0; }' | \
 	    clang -fsanitize=fuzzer,address,undefined -x c - -o $(OUT)/probe 2>$(OUT)/probe.log || \
 	    { echo "make fuzz needs a clang with libFuzzer and the sanitizers' runtime" >&2; exit 2; }
-	RUSTFLAGS="$(COUNTERS)" CARGO_TARGET_DIR=$(abspath $(OUT)/fuzz) cargo build $(MANIFEST) -p second_c
-	clang $(WARN) -O1 -g -fsanitize=fuzzer,address,undefined -Iinclude host/c/fuzz.c $(LIBRARY) \
+	+RUSTFLAGS="$(COUNTERS)" CARGO_TARGET_DIR="$(CURDIR)/$(OUT)/fuzz" cargo build $(MANIFEST) -p second_c
+	clang $(WARN) -O1 -g -fsanitize=fuzzer,address,undefined -Iinclude host/c/fuzz.c $(LINKED) \
 	    $(OUT)/fuzz/release/libsecond_c.a -o $(OUT)/fuzz/calls
 	mkdir -p $(OUT)/fuzz/corpus
 	$(OUT)/fuzz/calls -max_total_time=$(SECONDS) -max_len=300 -timeout=10 -artifact_prefix=$(OUT)/fuzz/ $(OUT)/fuzz/corpus
 
-install: library
-	install -d $(DESTDIR)$(PREFIX)/include $(DESTDIR)$(PREFIX)/lib/pkgconfig
-	install -m 644 include/z2z4.h $(DESTDIR)$(PREFIX)/include/z2z4.h
-	install -m 644 $(LIBRARY) $(DESTDIR)$(PREFIX)/lib/libz2z4.a
-	sed 's|@PREFIX@|$(PREFIX)|; s|@VERSION@|$(VERSION)|' host/z2z4.pc.in >$(DESTDIR)$(PREFIX)/lib/pkgconfig/z2z4.pc
+TO = $(DESTDIR)$(PREFIX)
+install: library | $(OUT)
+	@case "$(PREFIX)" in /*) ;; *) echo "make install needs a PREFIX that begins with /" >&2; exit 2 ;; esac
+	sed 's|@PREFIX@|$(PREFIX)|; s|@VERSION@|$(VERSION)|' host/z2z4.pc.in >$(OUT)/z2z4.pc
+	install -d "$(TO)/include" "$(TO)/lib/pkgconfig"
+	install -m 644 include/z2z4.h "$(TO)/include/z2z4.h"
+	install -m 644 $(LIBRARY) "$(TO)/lib/libz2z4.a"
+	install -m 644 $(OUT)/z2z4.pc "$(TO)/lib/pkgconfig/z2z4.pc"
 
 uninstall:
-	rm -f $(DESTDIR)$(PREFIX)/include/z2z4.h $(DESTDIR)$(PREFIX)/lib/libz2z4.a $(DESTDIR)$(PREFIX)/lib/pkgconfig/z2z4.pc
+	rm -f "$(TO)/include/z2z4.h" "$(TO)/lib/libz2z4.a" "$(TO)/lib/pkgconfig/z2z4.pc"
 
 clean:
 	rm -rf $(OUT)

@@ -18,9 +18,9 @@
  * refused call writes nothing.
  *
  * Buffers. A pointer is to at least as many bytes as the length that follows it, and may be NULL where that length
- * is 0 (the call is then refused like any other with that length). The buffers of one call must not overlap. The
- * calls keep no state, allocate no memory and do no input or output: threads may call them at once, each with an
- * output of its own.
+ * is 0 (the call is then refused like any other with that length). out must not overlap what is read; the two words
+ * of z2z4_combine are only read and may be one. The calls keep no state, allocate no memory and do no input or
+ * output: threads may call them at once, each with an output of its own.
  *
  * What is proved is what the functions do as Rattle functions: the contracts in crates/z2z4/src/lib.rt. That this
  * header declares them rightly is tested (make check), not proved. The library is for Linux on x86-64.
@@ -45,7 +45,8 @@ enum {
     Z2Z4_EQUAL_PLACES = -6  /* the two places are equal */
 };
 
-/* n and the places of a message. They mean something for admitted t only: check t first where it comes from outside. */
+/* n and the places of a message. They mean something for admitted t only: check t first where it comes from outside.
+ * The second takes t twice. */
 #define Z2Z4_LENGTH(t) (((size_t)1 << (t)) - 1)
 #define Z2Z4_MESSAGE_LENGTH(t) (Z2Z4_LENGTH(t) - (size_t)(t))
 

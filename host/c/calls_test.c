@@ -227,6 +227,7 @@ static void combine_promise(uint32_t t, uint32_t r, struct buffer *x, size_t fur
             twice[i] = twice[i + 1] = x->at[i] ^ x->at[i + 1];
     }
     expect(COMBINE, t, r, x, &y, &out, 0, twice);
+    expect(COMBINE, t, r, x, x, &out, 0, twice); /* the two words may be one */
     release(&y);
     release(&out);
 }

@@ -30,7 +30,7 @@ fn place(a: i32) -> u32 {
     if a > 0 { a as u32 } else { 0 }
 }
 
-// The refusal in an answer of a C call; 7, which is no reason's number, for an answer that none gives.
+// The refusal in an answer of a C call; 7, which no call for C gives, for any other answer.
 fn refusal(a: i32) -> u32 {
     if a >= 0 {
         return 0;

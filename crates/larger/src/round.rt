@@ -31,7 +31,7 @@ pub(crate) fn round(code: Record, start: u32, m: &mut [u8], w: &mut [u8], out: &
     on_both(code, z, m, front(out, n), w, room)
 }
 
-// The codeword itself, then with one place flipped and with two.
+// The codeword itself, then with one place flipped, then with another; drawn twice, a place is flipped back.
 fn faults(code: Record, x: u32, c: &[u8], room: usize) -> u32 {
     let n = c.len();
     correct(code, c, room);

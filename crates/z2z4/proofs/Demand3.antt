@@ -1,4 +1,4 @@
--- Demand 3 of the calls for C: each is the coder's call with a record just opened (Opening), for which demand 3 holds. Assumes nothing.
+-- Demand 3 of the calls for C, and the third place: each call is the coder's call with a record just opened (Opening), for which demand 3 holds. Assumes nothing.
 use mathlib.Core.Path.{_≡_, refl, sym, ap, _∙_}
 use mathlib.Core.List.{List}
 use Prim.Native.Nat.{ℕ}
@@ -7,49 +7,43 @@ use lib.ListN.{take}
 use lib.IntN.{pos}
 use Rattle.layout.specs.Parameters.{Admitted, placesOf, messageOf}
 use Rattle.words.specs.Words.{Word, flip}
-use Rattle.coder.specs.State.{fresh}
+use Rattle.coder.specs.State.{fresh, placesIn}
 use Rattle.coder.specs.Calls as coder
 use Rattle.coder.specs.Demand3.{Own, NotFull, AtWord}
-use Rattle.coder.specs.declared.Record.{Record}
-use Rattle.coder.specs.declared.Opened.{Opened}
-use Rattle.coder.proofs.Refusals.{opens, fresh-fit}
+use Rattle.coder.proofs.Refusals.{fresh-fit}
+use Rattle.coder.proofs.Triples.{thirds}
 use Rattle.coder.proofs.Demand3.{demand3}
 use Rattle.z2z4.specs.Calls.{signed, encodeAnswer, correctAnswer, combineAnswer}
-use Rattle.z2z4.specs.Claims.{AsOpened}
-use Rattle.z2z4.specs.Demand3.{Room, encodedFor, correctedFor, combinedFor, AtWordForC, Demand3ForC}
-use Rattle.z2z4.proofs.Opening.{encoded, corrected, combined}
+use Rattle.z2z4.specs.Demand3.{Room, encodedFor, correctedFor, combinedFor, AtWordForC, Demand3ForC, ThirdsForC}
+use Rattle.z2z4.proofs.Opening.{with-fresh, encoded, corrected, combined, third}
 
 module _ (t r : ℕ) (ok : Admitted t r) where
   -- the record that opening gives, with the output of a call
   abbrev own : Room t → Own t r
   own o = record { given = fresh t r; code = record { isT = refl; isR = refl; fit = fresh-fit t r ok }; output = o .output; enough = o .enough }
 
-  with-fresh : {A : Type 0} {v : A} {x : ℕ → A} {f : Record → A} → AsOpened t r v x f → v ≡ f (fresh t r)
-  with-fresh {f = f} a =
-      a .given (ap (λ (o : Opened). o .refusal) (opens t r ok)) ∙ ap (λ (o : Opened). f (o .«record»)) (opens t r ok)
-
   module _ (o : Room t) where
     -- what each call does is what the coder's call does with that record
     encode-answers : (m : List ℕ) → coder.encodeAnswer (fresh t r) m (o .output) .refusal ≡ 0 → encodeAnswer t r m (o .output) ≡ pos 0
-    encode-answers m h = with-fresh (encoded t r m (o .output) .answers) ∙ ap (λ (n : ℕ). signed n 0) h
+    encode-answers m h = with-fresh t r ok (encoded t r m (o .output) .answers) ∙ ap (λ (n : ℕ). signed n 0) h
 
     encode-writes : (m : List ℕ) → encodedFor t r m (o .output) ≡ take (placesOf t) (coder.encodeOutput (fresh t r) m (o .output))
-    encode-writes m = ap (take (placesOf t)) (with-fresh (encoded t r m (o .output) .writes))
+    encode-writes m = ap (take (placesOf t)) (with-fresh t r ok (encoded t r m (o .output) .writes))
 
     combine-answers : (x y : List ℕ) → coder.combineAnswer (fresh t r) x y (o .output) .refusal ≡ 0 → combineAnswer t r x y (o .output) ≡ pos 0
-    combine-answers x y h = with-fresh (combined t r x y (o .output) .answers) ∙ ap (λ (n : ℕ). signed n 0) h
+    combine-answers x y h = with-fresh t r ok (combined t r x y (o .output) .answers) ∙ ap (λ (n : ℕ). signed n 0) h
 
     combine-writes : (x y : List ℕ) → combinedFor t r x y (o .output) ≡ take (placesOf t) (coder.combineOutput (fresh t r) x y (o .output))
-    combine-writes x y = ap (take (placesOf t)) (with-fresh (combined t r x y (o .output) .writes))
+    combine-writes x y = ap (take (placesOf t)) (with-fresh t r ok (combined t r x y (o .output) .writes))
 
     correct-answers : (w : List ℕ) → coder.correctAnswer (fresh t r) w (o .output) .refusal ≡ 0
         → correctAnswer t r w (o .output) ≡ pos (coder.correctAnswer (fresh t r) w (o .output) .place)
     correct-answers w h =
-        with-fresh (corrected t r w (o .output) .answers)
+        with-fresh t r ok (corrected t r w (o .output) .answers)
         ∙ ap (λ (n : ℕ). signed n (coder.correctAnswer (fresh t r) w (o .output) .place)) h
 
     correct-writes : (w : List ℕ) → correctedFor t r w (o .output) ≡ take (placesOf t) (coder.correctOutput (fresh t r) w (o .output))
-    correct-writes w = ap (take (placesOf t)) (with-fresh (corrected t r w (o .output) .writes))
+    correct-writes w = ap (take (placesOf t)) (with-fresh t r ok (corrected t r w (o .output) .writes))
 
   not-full : (o : Room t) → NotFull (own o)
   not-full o z = omega arith
@@ -92,3 +86,15 @@ module _ (t r : ℕ) (ok : Admitted t r) where
 
 pub demand3-for-c : Demand3ForC
 demand3-for-c t r ok w h = for-c t r ok w h
+
+-- ---- the third place
+pub thirds-for-c : ThirdsForC
+unfolding placesIn
+thirds-for-c t r ok i j a b c d n =
+    let y = thirds (fresh t r) i j (fresh-fit t r ok) a b c d n in
+    record {
+      k = coder.thirdAnswer (fresh t r) i j .place;
+      answers = with-fresh t r ok (third t r i j .answers) ∙ ap (λ (n : ℕ). signed n (coder.thirdAnswer (fresh t r) i j .place)) (y .accepted);
+      makes = y .makes;
+      only = y .only;
+    }

@@ -6,7 +6,8 @@ use mathlib.Core.List.{List, _++_}
 use Prim.Native.Nat.{ℕ, zero, suc, _<_, _^_}
 use native.Mathlib.Omega.{arith}
 use lib.ListN.{length, drop}
-use Rattle.coder.specs.State.{Fit, placesIn, messageIn, encodedIn, correctedIn, correctedPlaceIn, combineIn, thirdIn}
+use Rattle.layout.specs.Parameters.{Admitted}
+use Rattle.coder.specs.State.{Fit, fresh, placesIn, messageIn, encodedIn, correctedIn, correctedPlaceIn, combineIn, thirdIn}
 use Rattle.coder.specs.Reasons.{Reason, firstReason, full}
 use Rattle.coder.specs.Calls as coder
 use Rattle.coder.specs.Calls.{ifAccepted, openReasons, opened, stateReasons, writeInput, combineInput, thirdInput}
@@ -14,11 +15,11 @@ use Rattle.coder.specs.declared.Record.{Record}
 use Rattle.coder.specs.declared.Opened.{Opened}
 use Rattle.coder.proofs.Firsts.{first-before, first-past, first-last, accepted-none}
 use Rattle.coder.proofs.States.{fit-true, state-past}
-use Rattle.coder.proofs.Refusals.{opened-fresh, opened-fit}
+use Rattle.coder.proofs.Refusals.{opens, opened-fresh, opened-fit}
 use Rattle.coder.proofs.Bounds.{numbers, open-refusal}
 use Rattle.z2z4.specs.Calls.{signed, codeFor, callReasons, encodeAnswer, encodeOutput, correctAnswer, correctOutput}
 use Rattle.z2z4.specs.Calls.{combineAnswer, combineOutput, thirdAnswer}
-use Rattle.z2z4.specs.Claims.{AsOpened, encodeTold, correctTold, combineTold, thirdTold, Encoded, Corrected, Combined, Third}
+use Rattle.z2z4.specs.Claims.{AsOpened, encodeTold, correctTold, combineTold, thirdTold, Encoded, Corrected, Combined, Third, SameCalls}
 
 -- ---- what a call makes of an opening that answered o: z, where v is what comes of opening
 module _ {A : Type 0} {t r : ℕ} {v z : A} {x : ℕ → A} {f : Record → A} {o : Opened} (a : AsOpened t r v x f) (e : o ≡ opened t r) where
@@ -27,6 +28,11 @@ module _ {A : Type 0} {t r : ℕ} {v z : A} {x : ℕ → A} {f : Record → A} {
 
   pub by-record : o .refusal ≡ 0 → z ≡ f (o .«record») → z ≡ v
   by-record h y = y ∙ ap (λ (o : Opened). f (o .«record»)) e ∙ sym (a .given (sym (ap (λ (o : Opened). o .refusal) e) ∙ h))
+
+-- admitted t and r are opened
+pub with-fresh : {A : Type 0} (t r : ℕ) → Admitted t r → {v : A} {x : ℕ → A} {f : Record → A} → AsOpened t r v x f → v ≡ f (fresh t r)
+with-fresh t r ok {f = f} a =
+    a .given (ap (λ (o : Opened). o .refusal) (opens t r ok)) ∙ ap (λ (o : Opened). f (o .«record»)) (opens t r ok)
 
 -- opening's refusal can be told as a signed number
 pub open-told : (t r : ℕ) {o : Opened} → o ≡ opened t r → (o .refusal < 2 ^ 31) × (o .refusal ≡ 0 → 0 < 2 ^ 31)
@@ -126,3 +132,19 @@ third t r i j =
           made t r (thirdInput rec i j) (λ n. signed n (thirdIn rec i j)) (λ n. signed n 0) (thirdTold i j) (λ n. refl)
           (told (firstReason (coder.thirdReasons rec i j)) (thirdIn rec i j));
     }
+
+-- ---- r = 0
+pub zero-is-t : (t : ℕ) → SameCalls t 0 t
+unfolding encodeAnswer encodeOutput correctAnswer correctOutput combineAnswer combineOutput thirdAnswer
+zero-is-t zero = record {
+  encodes = λ m out. (refl, refl);
+  corrects = λ w out. (refl, refl);
+  combines = λ x y out. (refl, refl);
+  thirds = λ i j. refl;
+}
+zero-is-t (suc t) = record {
+  encodes = λ m out. (refl, refl);
+  corrects = λ w out. (refl, refl);
+  combines = λ x y out. (refl, refl);
+  thirds = λ i j. refl;
+}

@@ -1,14 +1,17 @@
--- Demand 3 of the calls for C: `Demand3ForC`, at the end. The theorem is `demand3-for-c : Demand3ForC` (proofs/Demand3). Assumes nothing.
+-- Demand 3 of the calls for C, `Demand3ForC`, and demand 2 of the third place, `ThirdsForC`. The theorems are `demand3-for-c` and
+-- `thirds-for-c` (proofs/Demand3). Assumes nothing.
 use mathlib.Core.Path.{_≡_}
+use mathlib.Core.Logic.{_≢_}
 use mathlib.Core.List.{List}
-use Prim.Native.Nat.{ℕ, _≤_}
+use Prim.Native.Nat.{ℕ, _≤_, _<_}
 use lib.ListN.{length, take}
 use lib.IntN.{pos}
 use Rattle.layout.specs.Parameters.{Admitted, placesOf, messageOf, moduliFor}
 use Rattle.words.specs.Words.{Word, flip}
 use Rattle.words.specs.Syndrome.{Codeword}
+use Rattle.words.specs.Claims.{ThreeAt}
 use Rattle.coder.specs.Demand3.{AtWord, MovedBy}
-use Rattle.z2z4.specs.Calls.{encodeAnswer, encodeOutput, correctAnswer, correctOutput, combineAnswer, combineOutput}
+use Rattle.z2z4.specs.Calls.{encodeAnswer, encodeOutput, correctAnswer, correctOutput, combineAnswer, combineOutput, thirdAnswer}
 
 -- an output long enough, whatever it holds
 pub record Room (t : ℕ) : Type 0 where
@@ -48,3 +51,13 @@ pub record AtWordForC (t r : ℕ) (w : List ℕ) : Type 0 where
 -- "For every admitted t and r and every word of length n"
 abbrev pub Demand3ForC : Type 0
 Demand3ForC = (t r : ℕ) → Admitted t r → (w : List ℕ) → Word (placesOf t) w → AtWordForC t r w
+
+-- demand 2 of the third place: for two places of a code, the call answers the one place that makes a codeword of weight 3 with them
+pub record ThirdForC (t r i j : ℕ) : Type 0 where
+  pub k : ℕ
+  pub answers : thirdAnswer t r i j ≡ pos k
+  pub makes : ThreeAt (moduliFor t r) i j k
+  pub only : (l : ℕ) → ThreeAt (moduliFor t r) i j l → l ≡ k
+
+abbrev pub ThirdsForC : Type 0
+ThirdsForC = (t r : ℕ) → Admitted t r → (i j : ℕ) → 0 < i → i ≤ placesOf t → 0 < j → j ≤ placesOf t → i ≢ j → ThirdForC t r i j

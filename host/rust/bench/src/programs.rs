@@ -1,6 +1,6 @@
 //! The three programs behind one trait, so that all are timed by the same loop.
 
-use second::{Code, Refusal};
+use second::{signed, Code};
 use std::ffi::c_void;
 
 /// The four calls with t and r settled; answers as in z2z4.h.
@@ -35,29 +35,22 @@ impl Program for Library {
     }
 }
 
-fn number(answer: Result<u32, Refusal>) -> i32 {
-    match answer {
-        Ok(place) => place as i32,
-        Err(refusal) => -(refusal.number as i32),
-    }
-}
-
 /// The second program, opened.
 impl Program for Code {
     fn encode(&self, message: &[u8], out: &mut [u8]) -> i32 {
-        number(Code::encode(self, message, out).map(|()| 0))
+        signed(Code::encode(self, message, out).map(|()| 0))
     }
 
     fn correct(&self, word: &[u8], out: &mut [u8]) -> i32 {
-        number(Code::correct(self, word, out))
+        signed(Code::correct(self, word, out))
     }
 
     fn combine(&self, first: &[u8], second: &[u8], out: &mut [u8]) -> i32 {
-        number(Code::combine(self, first, second, out).map(|()| 0))
+        signed(Code::combine(self, first, second, out).map(|()| 0))
     }
 
     fn third_place(&self, i: u32, j: u32) -> i32 {
-        number(Code::third_place(self, i, j))
+        signed(Code::third_place(self, i, j))
     }
 }
 

@@ -4,8 +4,8 @@
 //! of arguments were wrong, only the tests would show it.
 //!
 //! The safe calls test nothing themselves. The library refuses every unfit input, and what it
-//! asks of its caller, that no two buffers overlap, Rust's borrowing gives. They answer as in
-//! z2z4.h: 0 or more is accepted, a refusal is its negated number.
+//! asks of its caller, that an output overlaps nothing that is read, Rust's borrowing gives.
+//! They answer as in z2z4.h: 0 or more is accepted, a refusal is its negated number.
 
 use std::ptr;
 

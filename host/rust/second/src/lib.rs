@@ -31,6 +31,14 @@ impl Refusal {
     }
 }
 
+/// An answer as the C calls give it: a refusal is its negated number.
+pub fn signed(answer: Result<u32, Refusal>) -> i32 {
+    match answer {
+        Ok(place) => place as i32,
+        Err(refusal) => -(refusal.number as i32),
+    }
+}
+
 /// A code, opened. Refused calls write nothing; accepted ones write the first n bytes.
 #[derive(Debug, Clone)]
 pub struct Code {

@@ -26,10 +26,7 @@ fn answer(t: u32, r: u32, call: impl FnOnce(&Code) -> Result<u32, Refusal>) -> i
         },
         None => Code::open(t, r).and_then(|code| call(&code)),
     };
-    match answer {
-        Ok(place) => place as i32,
-        Err(refusal) => -(refusal.number as i32),
-    }
+    second::signed(answer)
 }
 
 /// A slice may not be made from NULL, even an empty one.

@@ -1,6 +1,6 @@
 //! How words, answers and outputs are shown.
 
-use second::Refusal;
+use second::{signed, Refusal};
 
 /// What every byte of an output is set to before a call.
 pub const FILL: u8 = 7;
@@ -22,14 +22,6 @@ fn hexadecimal_digit(places: &[u8]) -> char {
         .map(|(byte, weight)| byte * weight)
         .sum();
     char::from(b"0123456789abcdef"[usize::from(value)])
-}
-
-/// The answer as the C calls give it: a refusal is its negated number.
-pub fn signed(answer: Result<u32, Refusal>) -> i64 {
-    match answer {
-        Ok(place) => i64::from(place),
-        Err(refusal) => -i64::from(refusal.number),
-    }
 }
 
 /// The answer of a call and what it left in its output, for words of n places.

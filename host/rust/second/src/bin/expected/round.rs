@@ -1,9 +1,9 @@
 //! One round of calls on one code. The order of the draws is part of what is compared: the
 //! program `larger` makes the same draws in the same order.
 
-use crate::lines::{hexadecimal, outcome, signed, FILL};
+use crate::lines::{hexadecimal, outcome, FILL};
 use second::draw::Draw;
-use second::{Code, Refusal};
+use second::{signed, Code, Refusal};
 
 pub struct Round<'a> {
     code: &'a Code,
