@@ -71,6 +71,9 @@ check-c: $(OUT)/example $(OUT)/calls_test $(OUT)/table_test $(OUT)/long_test
 	$(CC) $(WARN) -std=c11 -fsyntax-only include/z2z4.h
 	$(CXX) -pedantic -Wall -Wextra -Werror -fsyntax-only -x c++ include/z2z4.h
 	$(OUT)/example | diff host/c/example.out -
+	sed -n '/^    #include <stdio.h>/,/^    }/s/^    //p' README.md >$(OUT)/try.c
+	$(CC) $(WARN) -Iinclude $(OUT)/try.c $(LINKED) -o $(OUT)/try
+	$(OUT)/try | diff host/c/try.out -
 	$(OUT)/table_test
 	$(OUT)/long_test
 	@set -e; ran=no; \
