@@ -10,7 +10,9 @@ and the loop over the inputs.
   library         opens the code anew in each call and keeps no table
   second program  its array of elements is built once, before; it allocates its words in each call
   tables          the C program host/c/table.c; its tables are built once, before
-All calls of a batch write to one output buffer, which is not cleared between them.";
+All calls of a batch write to one output buffer, which is not cleared between them.
+Where the linker puts the library moves its times, by up to a third from one binary to another;
+the quartiles below are those of this binary alone.";
 
 fn processor() -> String {
     let info = fs::read_to_string("/proc/cpuinfo").unwrap_or_default();
