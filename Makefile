@@ -86,8 +86,10 @@ check-c: $(OUT)/example $(OUT)/calls_test $(OUT)/table_test $(OUT)/long_test
 	else echo "check: no valgrind on the PATH, that run is left out"; fi; \
 	test $$ran = yes || { echo "make check needs valgrind or the sanitizers of $(CC)" >&2; exit 2; }
 
+# the benchmark, which is tested too, has copies of the library, and objcopy (binutils) names their calls
 check-rust: $(LINKED)
 	$(call need,cargo,check)
+	$(call need,objcopy,check)
 	+$(CARGO) test $(MANIFEST)
 
 expected: | $(OUT)
@@ -102,6 +104,7 @@ compare: $(LINKED)
 bench: $(LINKED)
 	$(call need,cargo,bench)
 	$(call need,$(CC),bench)
+	$(call need,objcopy,bench)
 	+$(CARGO) run $(MANIFEST) -p bench -- --plot "$(PLOT)"
 
 # libFuzzer is guided by the branches of the second program, which is built for it with counters of them

@@ -1,7 +1,7 @@
 -- For the loops of this crate: one law for a loop that fills an array from the front, the moduli by index, and each definition by
 -- index. Assumes nothing.
 use mathlib.Core.Path.{_≡_, refl, ap, sym, _∙_}
-use mathlib.Core.Bool.{Bool, true, false, _&&_}
+use mathlib.Core.Bool.{Bool, _&&_}
 use mathlib.Core.List.{List, [], _∷_}
 use Prim.Native.Nat.{ℕ, zero, suc, _+_, _*_, _-_, _/_, _%_, _^_, _≤_, _<_}
 use native.Mathlib.Nat.{mod-add-div, mul-add, add-mul, mul-assoc, mul-left-comm, mul-comm, pow-succ', mul-le-mul, pow-le-pow-right}
@@ -12,7 +12,7 @@ use lib.Dec.{eqb}
 use lib.ListN.{length, take, drop, getD, set, replicate, length-set, length-drop, drop-of-length-le}
 use lib.Seq.{take-suc, take-suc-set, take-all, drop-cons}
 use Rattle.group.specs.Group.{Modulus, one, two, four, radix, moduliOf, moduli, hd, tl, zeros, sum, times, number, element}
-use Rattle.group.specs.Sign.{same, allZero, firstOf}
+use Rattle.group.specs.Sign.{allZero, firstOf}
 use Rattle.group.proofs.Signs.{agree}
 
 -- ---- a loop that fills r from the front: the first i of its n elements are those of s
@@ -227,7 +227,7 @@ number-turn a b x n i l p q e =
       number-drop-lt a b (i - 1) (drop (i - 1) x),
     )
 
--- ---- the search for a component that is not 0, and for one that differs
+-- ---- the search for a component that is not 0
 first-zero : (x : ℕ) (e : List ℕ) → x ≡ 0 → firstOf (x ∷ e) ≡ suc (firstOf e)
 unfolding firstOf
 first-zero x e p = rw p
@@ -258,22 +258,3 @@ zero-first (zero ∷ x) = eqb-suc (firstOf x) (length x) ∙ zero-first x
         (λ t. let p = eqb-true (suc a) (suc b) t in eq-eqb a b (omega arith))
         (λ t. let p = eqb-true a b t in eq-eqb (suc a) (suc b) (omega arith))
 zero-first (suc x ∷ e) = ne-eqb 0 (suc (length e)) (omega arith) ∙ sym (ap (λ (b : Bool). b && allZero e) (ne-eqb (suc x) 0 (omega arith)))
-
-same-cons : (x y : ℕ) (e f : List ℕ) → x ≡ y → same (x ∷ e) (y ∷ f) ≡ same e f
-unfolding same
-same-cons x y e f p = rw (eq-eqb x y p)
-
-differ-cons : (x y : ℕ) (e f : List ℕ) → (x ≡ y → ⊥) → same (x ∷ e) (y ∷ f) ≡ false
-unfolding same
-differ-cons x y e f n = rw (ne-eqb x y n)
-
-pub same-step : (x y : List ℕ) (i : ℕ) → i < length x → i < length y → getD x i 0 ≡ getD y i 0
-    → same (drop i x) (drop i y) ≡ same (drop (i + 1) x) (drop (i + 1) y)
-same-step x y i h k e = rw (drop-cons x i 0, drop-cons y i 0, add-one) (same-cons (getD x i 0) (getD y i 0) (drop (suc i) x) (drop (suc i) y) e)
-
-pub same-not : (x y : List ℕ) (i : ℕ) → i < length x → i < length y → (getD x i 0 ≡ getD y i 0 → ⊥) → same (drop i x) (drop i y) ≡ false
-same-not x y i h k e = rw (drop-cons x i 0, drop-cons y i 0) (differ-cons (getD x i 0) (getD y i 0) (drop (suc i) x) (drop (suc i) y) e)
-
-pub same-end : (x y : List ℕ) (i : ℕ) → length x ≤ i → length y ≤ i → same (drop i x) (drop i y) ≡ true
-unfolding same
-same-end x y i h k = rw (drop-of-length-le x h, drop-of-length-le y k)

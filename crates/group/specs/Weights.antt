@@ -1,25 +1,25 @@
--- The sum of all elements, each times a weight. Assumes nothing.
+-- Sums of elements, each times a weight. Assumes nothing.
 use mathlib.Core.List.{List, [], _∷_}
-use mathlib.Core.Bool.{true, false}
-use Prim.Native.Nat.{ℕ, suc}
-use lib.Dec.{leb}
-use lib.ListN.{take}
-use Rattle.group.specs.Group.{Modulus, moduli, zeros, sum, times, element, size}
+use Prim.Native.Nat.{ℕ, _+_, _%_}
+use Rattle.group.specs.Group.{Modulus, hd, tl, zeros, sum, times, element}
 
--- the sum of elements, each times its weight: the first weight is that of the element of number x, the next that of the element of number
--- x + 1, and so on
-unfoldable pub weighFrom : List Modulus → ℕ → List ℕ → List ℕ
-weighFrom ms x [] = zeros ms
-weighFrom ms x (d ∷ v) = sum ms (times ms d (element ms x)) (weighFrom ms (suc x) v)
+-- the sum over a list of numbers: of the element of each number, times its weight. Numbers and weights without a fellow count for nothing
+unfoldable pub weighOn : List Modulus → List ℕ → List ℕ → List ℕ
+weighOn ms [] v = zeros ms
+weighOn ms (x ∷ xs) [] = zeros ms
+weighOn ms (x ∷ xs) (d ∷ v) = sum ms (times ms d (element ms x)) (weighOn ms xs v)
 
--- how many weights there is room for
-abbrev pub room : ℕ
-room = 1024
+-- each number of a list, and c more
+unfoldable pub moved : ℕ → List ℕ → List ℕ
+moved c [] = []
+moved c (x ∷ xs) = (x + c) ∷ moved c xs
 
--- what `weighted` answers: the sum over all elements; zero where there are more of them than weights
-unfoldable pub weightedFor : ℕ → ℕ → List ℕ → List ℕ
-weightedFor a b v =
-    elim (leb (size (moduli a b)) room) as (λ _. List ℕ) [
-      | true ↦ weighFrom (moduli a b) 0 (take (size (moduli a b)) v)
-      | false ↦ zeros (moduli a b)
-    ]
+-- two lists of weights added, weight by weight. Four times an element is zero, so remainders modulo 4 do
+unfoldable pub added : List ℕ → List ℕ → List ℕ
+added [] v = []
+added (p ∷ u) v = (p % 4 + hd v % 4) % 4 ∷ added u (tl v)
+
+-- the sum of weights
+unfoldable pub total : List ℕ → ℕ
+total [] = 0
+total (p ∷ v) = p % 4 + total v

@@ -2,18 +2,11 @@
 // others unused and 0. Every function answers for every input: a component out of range counts by
 // its remainder. What each one means is in specs/, its laws in proofs/Laws.antt, Numbers.antt and
 // Signs.antt. Callers rely on those laws and not on how the sums are made.
-mod sign;
-mod weigh;
-
 ghost use mathlib.Core.Path.{_≡_};
 ghost use Prim.Native.Nat.{_<_};
 ghost use lib.ListN.{getD};
-ghost use Rattle.group.specs.Group.{one, radix, moduli, zeros, sum, negative, times, number, element};
-ghost use Rattle.group.specs.Sign.{same, allZero, firstOf};
-pub use sign::sign_of;
-pub use weigh::ROOM;
-pub use weigh::Weights;
-pub use weigh::weighted;
+ghost use Rattle.group.specs.Group.{one, radix, moduli, zeros, sum, negative, times, number};
+ghost use Rattle.group.specs.Sign.{allZero, firstOf};
 
 // "An element is held as its list of components."
 pub type Element = [u8; 12];
@@ -79,44 +72,8 @@ pub fn number_of(a: usize, b: usize, x: Element) -> u32
     n
 }
 
-// The element that has a number.
-pub fn of_number(a: usize, b: usize, n: u32) -> Element
-    ensures { λ r. ⌜ r ≡ element (moduli a b) n ⌝ }
-{
-    let mut r = [0u8; 12];
-    let mut left = n;
-    let mut i: usize = 0;
-    while i < 12 {
-        if i < a {
-            r[i] = (left % 2) as u8;
-            left = left / 2;
-        } else if i - a < b {
-            r[i] = (left % 4) as u8;
-            left = left / 4;
-        } else {
-            r[i] = 0;
-        }
-        i += 1;
-    }
-    r
-}
-
-// Whether two elements are equal, byte by byte.
-pub fn equal(x: Element, y: Element) -> bool
-    ensures { λ r. ⌜ r ≡ same x y ⌝ }
-{
-    let mut i: usize = 0;
-    while i < 12 {
-        if x[i] != y[i] {
-            return false;
-        }
-        i += 1;
-    }
-    true
-}
-
 // The index of the first component that is not 0, or 12.
-pub fn first(x: Element) -> usize
+fn first(x: Element) -> usize
     ensures { λ r. ⌜ r ≡ firstOf x ⌝ }
 {
     let mut i: usize = 0;

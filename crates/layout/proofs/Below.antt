@@ -1,21 +1,18 @@
--- How many elements of a sign, and how many units of it, have a smaller number; what the code's reading of the components counts is that.
--- Assumes nothing.
-use mathlib.Core.Path.{_≡_, refl, sym, ap, ap₂, _∙_}
-use mathlib.Core.List.{List, [], _∷_}
+-- How many elements of a sign, and how many units of it, have a number below a bound. Assumes nothing.
+use mathlib.Core.Path.{_≡_, refl, sym, ap, _∙_}
+use mathlib.Core.List.{List, _∷_}
 use mathlib.Core.Bool.{Bool, true, false, _&&_, not}
 use Prim.Native.Nat.{ℕ, zero, suc, _+_, _*_, _<_, _≤_}
-use native.Mathlib.Nat.{le-of-lt}
 use native.Mathlib.Omega.{arith}
 use lib.Dec.{eqb, leb, ltb}
 use borrow.Author.Tests.{eq-eqb, ne-eqb, lt-ltb, le-ltb}
 use Rattle.group.specs.Group.{Modulus, one, two, four, Valid, zeros, number, element, size}
-use Rattle.group.specs.Sign.{allZero, unitOr, isUnit, lead}
+use Rattle.group.specs.Sign.{allZero, isUnit, lead}
 use Rattle.group.proofs.Laws.{valid-element}
-use Rattle.group.proofs.Numbers.{element-number, number-element, number-lt, element-zero, number-zeros}
+use Rattle.group.proofs.Numbers.{number-element, element-zero, number-zeros}
 use Rattle.group.proofs.Signs.{lead-zeros, allZero-zeros, zeros-allZero, agree, true-T}
 use Rattle.layout.specs.Gate.{gate, hit}
-use Rattle.layout.specs.Rank.{signOf, stepTwo, stepFour, rankOf}
-use Rattle.layout.specs.declared.rank.Rank.{Rank}
+use Rattle.layout.specs.Parts.{signOf}
 use Rattle.layout.proofs.Sums.{sumTo, sumTo-ext, sumTo-add, sumTo-gate, sumTo-ones, below, below-one, below-two, below-four, rest}
 use Rattle.layout.proofs.Cover.{ofSign}
 
@@ -44,9 +41,6 @@ members-units p ms x =
     (λ y. hit (ofSign (signOf p) ms (element ms y)) + gate (isUnit (element ms y)) (hit (eqb (lead ms (element ms y)) (signOf p))))
     (λ y. hit (eqb (lead ms (element ms y)) (signOf p))) x
     (λ y l. split (eqb (lead ms (element ms y)) (signOf p)) (isUnit (element ms y)))
-
-pub units-led : (p : Bool) (ms : List Modulus) (x : ℕ) → unitsLed p ms x ≤ led p ms x
-units-led p ms x = omega (arith, members-units p ms x)
 
 -- ---- zero is the element of number 0 alone
 zero-number : (ms : List Modulus) (y : ℕ) → y < size ms → allZero (element ms y) ≡ eqb y 0
@@ -207,82 +201,3 @@ module _ (p : Bool) (ms : List Modulus) where
       go (suc (suc zero)) l = omega (arith, blocks, plain p (element ms v))
       go (suc (suc (suc zero))) l = omega (arith, blocks, plain p (element ms v))
       go (suc (suc (suc (suc d)))) l = absurd (omega arith)
-
--- ---- what reading the components comes to
-abbrev mk : ℕ → ℕ → ℕ → ℕ → Bool → Rank
-mk n l u s f = record { number = n; led = l; units = u; lead = s; unit = f }
-
-mk-eq : {n n′ l l′ u u′ s s′ : ℕ} {f f′ : Bool} → n ≡ n′ → l ≡ l′ → u ≡ u′ → s ≡ s′ → f ≡ f′ → mk n l u s f ≡ mk n′ l′ u′ s′ f′
-mk-eq a b c d e = λ i. mk (a i) (b i) (c i) (d i) (e i)
-
-abbrev pub rankRight : Bool → List Modulus → List ℕ → Rank
-rankRight p ms e = mk (number ms e) (led p ms (number ms e)) (unitsLed p ms (number ms e)) (lead ms e) (isUnit e)
-
--- the part of the argument that the moduli share: N is the number of the components read before
-module _ (p : Bool) (ms : List Modulus) (e : List ℕ) (h : Valid ms e) where
-  at-number : element ms (number ms e) ≡ e
-  at-number = element-number ms e h
-
-  has-number : hit (eqb (lead ms (element ms (number ms e))) (signOf p)) ≡ hit (eqb (lead ms e) (signOf p))
-  has-number = ap (λ (r : List ℕ). hit (eqb (lead ms r) (signOf p))) at-number
-
-  unit-number : gate (isUnit (element ms (number ms e))) (hit (eqb (lead ms (element ms (number ms e))) (signOf p)))
-      ≡ gate (isUnit e) (hit (eqb (lead ms e) (signOf p)))
-  unit-number = ap (λ (r : List ℕ). gate (isUnit r) (hit (eqb (lead ms r) (signOf p)))) at-number
-
-  zero-at : eqb (number ms e) 0 ≡ allZero e
-  zero-at = sym (zero-number ms (number ms e) (number-lt ms e)) ∙ ap allZero at-number
-
-  step-two : (x : ℕ) → x < 2 → stepTwo p (rankRight p ms e) x ≡ rankRight p (two ∷ ms) (x ∷ e)
-  unfolding stepTwo lead isUnit
-  step-two x l =
-      let N = number ms e in
-      let n : number (two ∷ ms) (x ∷ e) ≡ x + 2 * N = unfold number in omega arith in
-      mk-eq
-      (sym (n ∙ omega arith))
-      (sym (ap (led p (two ∷ ms)) n ∙ led-two p ms x N l ∙ ap (λ (k : ℕ). 2 * led p ms N + gate (eqb x 1) k) has-number))
-      (sym
-      (ap (unitsLed p (two ∷ ms)) n
-      ∙ units-two p ms x N l (le-of-lt (number-lt ms e))
-      ∙ ap (λ (k : ℕ). unitsLed p ms N + (gate (eqb (signOf p) 0) (hit (ltb 0 N)) + gate (eqb x 1) k)) unit-number
-      ∙ omega arith))
-      refl
-      (ap (unitOr x (isUnit e)) zero-at)
-
-  step-four : (x : ℕ) → x < 4 → stepFour p (rankRight p ms e) x ≡ rankRight p (four ∷ ms) (x ∷ e)
-  unfolding stepFour lead isUnit
-  step-four x l =
-      let N = number ms e in
-      let n : number (four ∷ ms) (x ∷ e) ≡ x + 4 * N = unfold number in omega arith in
-      mk-eq
-      (sym (n ∙ omega arith))
-      (sym
-      (ap (led p (four ∷ ms)) n
-      ∙ led-four p ms x N l
-      ∙ ap (λ (k : ℕ). 2 * led p ms N + (gate p N + (gate (leb 1 x) k + (gate (leb 2 x) (gate p 1) + gate (leb 3 x) k)))) has-number
-      ∙ omega arith))
-      (sym
-      (ap (unitsLed p (four ∷ ms)) n
-      ∙ units-four p ms x N l (le-of-lt (number-lt ms e))
-      ∙ ap₂ (λ (k : ℕ) (b : Bool). unitsLed p ms N + (gate p (hit (ltb 0 N)) + (gate (leb 1 x) k + gate (leb 2 x) (gate p (hit b)))))
-      unit-number (ap allZero at-number ∙ sym zero-at)
-      ∙ omega arith))
-      refl
-      (ap (unitOr x (isUnit e)) zero-at)
-
-  step-one : (x : ℕ) → x < 1 → rankRight p ms e ≡ rankRight p (one ∷ ms) (x ∷ e)
-  unfolding lead isUnit
-  step-one zero l =
-      let N = number ms e in
-      let n : number (one ∷ ms) (0 ∷ e) ≡ N = unfold number in omega arith in
-      mk-eq (sym n) (sym (ap (led p (one ∷ ms)) n ∙ led-one p ms N)) (sym (ap (unitsLed p (one ∷ ms)) n ∙ units-one p ms N)) refl refl
-  step-one (suc x) l = absurd (omega arith)
-
-pub rank-right : (p : Bool) (ms : List Modulus) (e : List ℕ) → Valid ms e → rankOf p ms e ≡ rankRight p ms e
-unfolding rankOf number lead isUnit sumTo
-rank-right p [] [] h = refl
-rank-right p [] (x ∷ e) h = absurd h
-rank-right p (m ∷ ms) [] h = absurd h
-rank-right p (one ∷ ms) (x ∷ e) h = rank-right p ms e (h .1) ∙ step-one p ms e (h .1) x (h .0)
-rank-right p (two ∷ ms) (x ∷ e) h = ap (λ (s : Rank). stepTwo p s x) (rank-right p ms e (h .1)) ∙ step-two p ms e (h .1) x (h .0)
-rank-right p (four ∷ ms) (x ∷ e) h = ap (λ (s : Rank). stepFour p s x) (rank-right p ms e (h .1)) ∙ step-four p ms e (h .1) x (h .0)

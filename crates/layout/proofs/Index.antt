@@ -1,25 +1,15 @@
--- Where each element stands: the places part by part, the members of the message's parts by their rank, the check places by component.
--- Assumes nothing.
-use mathlib.Core.Path.{_≡_, refl, sym, ap, ap₂, _∙_}
+-- Where each element stands: the places part by part, and the check places by component. Assumes nothing.
+use mathlib.Core.Path.{_≡_, refl, sym, ap, _∙_}
 use mathlib.Core.List.{List, [], _∷_, _++_, map, append-assoc}
-use mathlib.Core.Bool.{Bool, true, false, _&&_, not}
 use Prim.Native.Nat.{ℕ, zero, suc, _+_, _-_, _*_, _<_, _≤_}
 use native.Mathlib.Omega.{arith}
-use borrow.Author.Tests.{eq-eqb}
 use lib.ListN.{length, getD, set, List·getD-append, List·getD-map}
-use lib.Seq.{getD-append-add, getD-at}
-use Rattle.group.specs.Group.{Modulus, two, four, moduliOf, moduli, zeros, negative, number, element, size}
-use Rattle.group.specs.Sign.{lead}
-use Rattle.group.proofs.Numbers.{element-number, number-lt}
+use lib.Seq.{getD-append-add}
+use Rattle.group.specs.Group.{Modulus, two, four, moduliOf, moduli, zeros, negative}
 use Rattle.group.proofs.Signs.{zeros-cons}
-use Rattle.layout.specs.Layout.{from, keep, single, pair, elements, singles, pairs, units, message, slots, places, elementAt}
-use Rattle.layout.specs.Gate.{hit}
-use Rattle.layout.specs.Rank.{signOf, partOf, Member}
-use Rattle.layout.proofs.Lists.{count, keep-yes, keep-append, length-keep, from-append}
-use Rattle.layout.proofs.Cover.{ofSign, singles-signs, places-append, places-singles, places-units}
-use Rattle.layout.proofs.Sums.{sumTo}
-use Rattle.layout.proofs.Below.{members}
-use Rattle.layout.proofs.Sizes.{count-run, members-first, count-elements, length-places-pairs}
+use Rattle.layout.specs.Layout.{single, pair, singles, pairs, units, message, slots, places, elementAt}
+use Rattle.layout.proofs.Cover.{places-append, places-singles, places-units}
+use Rattle.layout.proofs.Sizes.{length-places-pairs}
 
 -- ---- the places, part by part
 pub parts : (ms : List Modulus) → places ms (slots ms) ≡ singles ms ++ (places ms (map pair (pairs ms)) ++ places ms (units ms))
@@ -76,88 +66,6 @@ at-check ms i =
     ∙ getD-append-add (singles ms) (q ++ u) (2 * length (pairs ms) + i) (zeros ms)
     ∙ ap (λ (k : ℕ). getD (q ++ u) (k + i) (zeros ms)) (sym (length-places-pairs ms (pairs ms)))
     ∙ getD-append-add q u i (zeros ms)
-
--- ---- the message's parts: a member stands at the place that says how many members have a smaller number
-pub part-signs : (p : Bool) (ms : List Modulus) → partOf p ms ≡ keep (ofSign (signOf p) ms) (elements ms)
-unfolding pairs
-part-signs true ms = refl
-part-signs false ms = singles-signs ms
-
-pub length-part : (p : Bool) (ms : List Modulus) → hit (not p) + length (partOf p ms) ≡ members p ms (size ms)
-length-part p ms =
-    ap (λ (n : ℕ). hit (not p) + n) (ap length (part-signs p ms) ∙ length-keep (ofSign (signOf p) ms) (elements ms)) ∙ count-elements p ms
-
-split-elements : (ms : List Modulus) (x : ℕ) → 0 < x → x < size ms
-    → elements ms ≡ map (element ms) (from 1 (x - 1)) ++ (element ms x ∷ map (element ms) (from (suc x) (size ms - 1 - x)))
-unfolding elements from
-split-elements ms x h k =
-    let a : size ms - 1 ≡ (x - 1) + suc (size ms - 1 - x) = omega arith in
-    let b : 1 + (x - 1) ≡ x = omega arith in
-    ap (λ (n : ℕ). map (element ms) (from 1 n)) a
-    ∙ ap (map (element ms)) (from-append 1 (x - 1) (suc (size ms - 1 - x)))
-    ∙ map-append (element ms) (from 1 (x - 1)) (from (1 + (x - 1)) (suc (size ms - 1 - x)))
-    ∙ ap (λ (n : ℕ). map (element ms) (from 1 (x - 1)) ++ map (element ms) (from n (suc (size ms - 1 - x)))) b
-  where
-    map-append : (f : ℕ → List ℕ) (xs ys : List ℕ) → map f (xs ++ ys) ≡ map f xs ++ map f ys
-    map-append f [] ys = refl
-    map-append f (y ∷ xs) ys = ap {B = List (List ℕ)} (λ r. f y ∷ r) (map-append f xs ys)
-
-pub member-at : (p : Bool) (ms : List Modulus) (x i : ℕ) → 0 < x → x < size ms → ofSign (signOf p) ms (element ms x) ≡ true
-    → hit (not p) + i ≡ members p ms x
-    → getD (partOf p ms) i (zeros ms) ≡ element ms x
-member-at p ms x i h k t e =
-    let q = ofSign (signOf p) ms in
-    let front = map (element ms) (from 1 (x - 1)) in
-    let back = map (element ms) (from (suc x) (size ms - 1 - x)) in
-    let b : 1 + (x - 1) ≡ x = omega arith in
-    let c : members p ms 1 + count q front ≡ members p ms x = count-run q ms (x - 1) 1 ∙ ap (members p ms) b in
-    let f = members-first p ms in
-    let l : length (keep q front) ≡ i = length-keep q front ∙ omega arith in
-    ap (λ r. getD r i (zeros ms))
-    (part-signs p ms ∙ ap (keep q) (split-elements ms x h k) ∙ keep-append q front (element ms x ∷ back) ∙ ap (λ r. keep q front ++ r) (keep-yes q (element ms x) back t))
-    ∙ getD-at (keep q front) (element ms x) (keep q back) (zeros ms) i l
-
--- the search for the number of a member ends where the count goes up
-pub member-found : (p : Bool) (ms : List Modulus) (x i : ℕ) → x < size ms
-    → members p ms x ≤ hit (not p) + i → hit (not p) + i < members p ms (x + 1)
-    → getD (partOf p ms) i (zeros ms) ≡ element ms x
-unfolding sumTo
-member-found p ms zero i k lo hi = absurd (omega (arith, members-first p ms))
-member-found p ms (suc x) i k lo hi = go (ofSign (signOf p) ms (element ms (suc x))) refl
-  where
-    more : members p ms (suc x + 1) ≡ members p ms (suc x) + hit (ofSign (signOf p) ms (element ms (suc x)))
-    more = let e : suc x + 1 ≡ suc (suc x) = omega arith in ap (members p ms) e
-
-    go : (b : Bool) → ofSign (signOf p) ms (element ms (suc x)) ≡ b → getD (partOf p ms) i (zeros ms) ≡ element ms (suc x)
-    go true t = let h = ap hit t in member-at p ms (suc x) i (omega arith) k t (omega (arith, more))
-    go false t = let h = ap hit t in absurd (omega (arith, more))
-
-pub members-none : (p : Bool) (ms : List Modulus) → members p ms 0 ≡ 0
-unfolding sumTo
-members-none p ms = refl
-
-members-mono : (p : Bool) (ms : List Modulus) (x y : ℕ) → x ≤ y → members p ms x ≤ members p ms y
-members-mono p ms x y h =
-    let e : x + (y - x) ≡ y = omega arith in
-    omega (arith, count-run (ofSign (signOf p) ms) ms (y - x) x ∙ ap (members p ms) e)
-
--- a member, and how many have a smaller number: at least zero, where it counts
-pub position-of : (p : Bool) (ms : List Modulus) (e : List ℕ) (n : ℕ) → Member p ms e → n ≡ members p ms (number ms e)
-    → (hit (not p) ≤ n) × (n - hit (not p) < length (partOf p ms)) × (getD (partOf p ms) (n - hit (not p)) (zeros ms) ≡ e)
-unfolding sumTo
-position-of p ms e n m h =
-    let x = number ms e in
-    let l = number-lt ms e in
-    let q : element ms x ≡ e = element-number ms e (m .valid) in
-    let t : ofSign (signOf p) ms (element ms x) ≡ true =
-    ap (ofSign (signOf p) ms) q ∙ ap₂ (λ (a b : Bool). a && not b) (eq-eqb (lead ms e) (signOf p) (m .sign)) (m .other) in
-    let k = m .nonzero in
-    let one-on : members p ms 1 ≤ members p ms x = members-mono p ms 1 x (omega arith) in
-    let up : members p ms (suc x) ≤ members p ms (size ms) = members-mono p ms (suc x) (size ms) (omega arith) in
-    let f = members-first p ms in
-    let s = length-part p ms in
-    let a : hit (not p) ≤ n = omega arith in
-    (a, omega (arith, ap hit t), member-at p ms x (n - hit (not p)) k l t (omega arith) ∙ q)
 
 -- ---- the check places: binary unit i is at i, the pair of quaternary unit j at a + 2j
 abbrev pub alone : List Modulus → ℕ → ℕ → List ℕ

@@ -72,15 +72,6 @@ length-keep q (x ∷ xs) = go (length-keep q xs) (q x) refl
     go i true e = rw (keep-yes q x xs e, e) (omega arith)
     go i false e = rw (keep-no q x xs e, e) (omega arith)
 
-pub keep-append : (q : List ℕ → Bool) (xs ys : List (List ℕ)) → keep q (xs ++ ys) ≡ keep q xs ++ keep q ys
-unfolding keep
-keep-append q [] ys = refl
-keep-append q (x ∷ xs) ys = go (keep-append q xs ys) (q x) refl
-  where
-    go : keep q (xs ++ ys) ≡ keep q xs ++ keep q ys → (b : Bool) → q x ≡ b → keep q (x ∷ (xs ++ ys)) ≡ keep q (x ∷ xs) ++ keep q ys
-    go i true e = rw (keep-yes q x (xs ++ ys) e, keep-yes q x xs e, i)
-    go i false e = rw (keep-no q x (xs ++ ys) e, keep-no q x xs e, i)
-
 -- how often s is among the members that pass
 pub count-keep : (q : List ℕ → Bool) (s : List ℕ) (xs : List (List ℕ)) → count (same s) (keep q xs) ≡ gate (q s) (count (same s) xs)
 unfolding count keep

@@ -14,10 +14,9 @@ use native.Mathlib.Omega.{arith}
 use native.Mathlib.Decide.{decLt}
 use lib.Dec.{eqb, eqb→eq}
 use lib.ListN.{length, getD, List·getD-eq-default}
-use Rattle.group.specs.Group.{Modulus, one, two, four, Valid, zeros, number, element, size}
+use Rattle.group.specs.Group.{Modulus, one, two, four, Valid, zeros, size}
 use Rattle.group.specs.Sign.{same, isUnit, lead}
-use Rattle.group.proofs.Laws.{radix-pos, valid-zeros, valid-negative, valid-element}
-use Rattle.group.proofs.Numbers.{element-number, element-zero, number-zeros}
+use Rattle.group.proofs.Laws.{radix-pos, valid-zeros, valid-negative}
 use Rattle.group.proofs.Signs.{true-T, both, not-true, same-refl, same-eq, even-own, negative-under, negative-unit-two}
 use Rattle.layout.specs.Layout.{keep, Slot, single, pair, elements, singles, pairs, under, units, message, slots, places, elementAt, placeFrom, placeOf}
 use Rattle.layout.specs.Claims.{Good}
@@ -183,23 +182,6 @@ place-from-lt p e (x ∷ xs) h = go (place-from-lt (suc p) e xs (omega arith)) (
 pub place-most : (ms : List Modulus) (e : List ℕ) → placeOf ms e ≤ length (places ms (slots ms))
 unfolding placeOf
 place-most ms e = let h = place-from-lt 1 e (places ms (slots ms)) (omega arith) in omega arith
-
--- the same by the element's number: an element is the element of its own number
-pub numbered : (ms : List Modulus) (e : List ℕ) → same e (element ms (number ms e)) ≡ true → Valid ms e
-numbered ms e t = subst (Valid ms) (sym (same-eq e (element ms (number ms e)) t)) (valid-element ms (number ms e))
-
-pub place-unnumbered : (ms : List Modulus) (e : List ℕ) → same e (element ms (number ms e)) ≡ false → placeOf ms e ≡ 0
-place-unnumbered ms e t =
-    place-none ms e (λ v. absurd (true≢false (sym (same-refl e) ∙ ap (same e) (sym (element-number ms e v)) ∙ t)))
-
-pub place-zero : (ms : List Modulus) (e : List ℕ) → number ms e ≡ 0 → placeOf ms e ≡ 0
-place-zero ms e n = place-none ms e (λ v. sym (element-number ms e v) ∙ ap (element ms) n ∙ element-zero ms)
-
-pub place-numbered : (ms : List Modulus) (e : List ℕ) (p : ℕ) → Valid ms e → 0 < number ms e → 0 < p → elementAt ms p ≡ e → placeOf ms e ≡ p
-place-numbered ms e p v n h k = place-unique ms e p v (λ z. clash (ap (number ms) z ∙ number-zeros ms)) h k
-  where
-    clash : number ms e ≡ 0 → ⊥
-    clash z = omega arith
 
 -- every element other than zero is the element of exactly one place
 pub one-place : (ms : List Modulus) (e : List ℕ) → Valid ms e → e ≢ zeros ms

@@ -13,7 +13,7 @@ use Rattle.group.proofs.Numbers.{size-pos, element-zero}
 use Rattle.group.proofs.Signs.{lead-zeros, zeros-unit}
 use Rattle.layout.specs.Layout.{from, single, pair, elements, singles, pairs, units, message, slots, places}
 use Rattle.layout.specs.Gate.{hit}
-use Rattle.layout.specs.Rank.{signOf}
+use Rattle.layout.specs.Parts.{signOf}
 use Rattle.layout.proofs.Lists.{count, length-keep}
 use Rattle.layout.proofs.Cover.{ofSign, singles-signs, places-append, places-singles, unitPlaces, places-units}
 use Rattle.layout.proofs.Sums.{sumTo, below}
@@ -108,7 +108,7 @@ units-all false (four ∷ ms) =
     ap (unitsLed false (four ∷ ms)) (size-four ms) ∙ units-four false ms 0 (size ms) (omega arith) (le-refl _) ∙ omega arith
 
 -- ---- a count over a run of numbers
-pub count-run : (q : List ℕ → Bool) (ms : List Modulus) (k a : ℕ)
+count-run : (q : List ℕ → Bool) (ms : List Modulus) (k a : ℕ)
     → below (λ e. hit (q e)) ms a + count q (map (element ms) (from a k)) ≡ below (λ e. hit (q e)) ms (a + k)
 unfolding count from sumTo
 count-run q ms zero a = let x : a + 0 ≡ a = omega arith in rw x (omega arith)
@@ -118,12 +118,12 @@ count-run q ms (suc k) a =
     rw x (omega arith)
 
 -- zero counts with the singles
-pub members-first : (p : Bool) (ms : List Modulus) → members p ms 1 ≡ hit (not p)
+members-first : (p : Bool) (ms : List Modulus) → members p ms 1 ≡ hit (not p)
 unfolding sumTo
 members-first true ms = rw (element-zero, lead-zeros)
 members-first false ms = rw (element-zero, lead-zeros, zeros-unit)
 
-pub count-elements : (p : Bool) (ms : List Modulus) → hit (not p) + count (ofSign (signOf p) ms) (elements ms) ≡ members p ms (size ms)
+count-elements : (p : Bool) (ms : List Modulus) → hit (not p) + count (ofSign (signOf p) ms) (elements ms) ≡ members p ms (size ms)
 unfolding elements
 count-elements p ms =
     let s = size-pos ms in

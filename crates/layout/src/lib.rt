@@ -1,18 +1,21 @@
 // The layout of places: which parameters are admitted, the element of a place, and the place of an
-// element. No table is kept: the code finds an element's rank among those of its part from its
-// components (rank.rt). Definitions are in specs/Parameters.antt and specs/Layout.antt, the theorems
+// element. No table is kept: an element's index among those of its sign follows from its digits, and
+// the other way round (descent.rt), and the units before it are left out (skip.rt). Definitions are in specs/Parameters.antt and specs/Layout.antt, the theorems
 // on them in proofs/Places.antt and proofs/Theorem.antt.
-mod rank;
+mod descent;
+mod skip;
 
 ghost use mathlib.Core.Path.{_≡_};
-ghost use Prim.Native.Nat.{_+_, _*_, _-_, _≤_, _<_, _^_};
+ghost use mathlib.Core.Bool.{true};
+ghost use Prim.Native.Nat.{_+_, _*_, _-_, _%_, _≤_, _<_, _^_};
 ghost use lib.ListN.{length, getD, set};
-ghost use Rattle.group.specs.Group.{Valid, moduli, zeros, negative, number, size};
+ghost use Rattle.group.specs.Group.{Valid, moduli, zeros, size};
 ghost use Rattle.group.specs.Sign.{lead};
 ghost use Rattle.layout.specs.Parameters.{admits};
-ghost use Rattle.layout.specs.Layout.{singles, pairs, units, places, elementAt};
+ghost use Rattle.layout.specs.Layout.{singles, pairs, units, places, elementAt, placeOf};
 ghost use Rattle.layout.specs.Calls.{shapeFor, elementFor, placeFor};
-ghost use Rattle.layout.specs.Rank.{Located};
+ghost use Rattle.layout.specs.Blocks.{plus};
+ghost use Rattle.layout.specs.Parts.{Located, Signed, standing, Tells, AllBelow};
 use group::Element;
 
 // The largest t in use.
@@ -106,20 +109,24 @@ fn check_element(a: usize, b: usize, i: usize) -> Element
     with_one(a, b, a + j, 1)
 }
 
-// The element of message place i, counted from 0, where part 1 has `part` places and the group
-// `count` elements.
-fn message_element(a: usize, b: usize, i: u32, part: u32, count: u32) -> Element
-    requires { ⌜ (part ≡ length (singles (moduli a b))) × (count ≡ size (moduli a b)) × (i < part + 2 * length (pairs (moduli a b))) ⌝ }
+// What z is multiplied by at place i of part 2, counted from 0: −z, which is 3 z, stands first.
+fn factor(i: u32) -> u8
+    ensures { λ r. ⌜ r + 2 * (i % 2) ≡ 3 ⌝ }
+{
+    if i % 2 == 0 { 3 } else { 1 }
+}
+
+// The element of message place i, counted from 0, where part 1 has `part` places.
+fn message_element(a: usize, b: usize, i: u32, part: u32) -> Element
+    requires { ⌜ (a + b ≤ 12) × (part ≡ length (singles (moduli a b))) × (i < part + 2 * length (pairs (moduli a b))) ⌝ }
     ensures { λ e. ⌜ e ≡ elementAt (moduli a b) (i + 1) ⌝ }
 {
     if i < part {
-        return rank::member(a, b, false, i, count);
+        let k = skip::single_index(a, i);
+        return descent::element(a, b, false, 1, k);
     }
-    let z = rank::member(a, b, true, (i - part) / 2, count);
-    if (i - part) % 2 == 0 {
-        return group::neg(a, b, z);
-    }
-    z
+    let k = skip::pair_index(a, b, (i - part) / 2);
+    descent::element(a, b, true, factor(i - part), k)
 }
 
 // The element of a place; zero where the code has no such place.
@@ -141,7 +148,7 @@ pub fn element_at(t: u32, r: u32, place: u32) -> Element
     let i = place - 1;
     if i < message {
         let part = k - narrow(a);
-        return message_element(a, b, i, part, n + 1);
+        return message_element(a, b, i, part);
     }
     check_element(a, b, (i - message) as usize)
 }
@@ -159,54 +166,99 @@ pub fn place_of(t: u32, r: u32, e: Element) -> u32
     if n == 0 {
         return 0;
     }
-    let x = group::number_of(a, b, e);
-    if x == 0 {
-        return 0;
-    }
-    if group::equal(e, group::of_number(a, b, x)) {
+    if is_element(a, b, e) {
         let part = k - narrow(a);
         return place_of_valid(a, b, e, part, message);
     }
     0
 }
 
-// The place of an element that is not zero, by its sign; part 1 has `part` places and the message
-// `message`.
-fn place_of_valid(a: usize, b: usize, e: Element, part: u32, message: u32) -> u32
-    requires { ⌜ Located a b part message × Valid (moduli a b) e × (0 < number (moduli a b) e) ⌝ }
-    ensures { λ p. ⌜ (0 < p) × (elementAt (moduli a b) p ≡ e) ⌝ }
+// Whether the components of x from `start` to `end` are below a bound.
+fn all_below(x: Element, start: usize, end: usize, bound: u8) -> bool
+    requires { ⌜ (start ≤ end) × (end ≤ 12) ⌝ }
+    ensures { λ r. ⌜ Tells r (AllBelow x start end bound) ⌝ }
 {
-    let k = rank::read(a, b, false, e);
-    let lead = k.lead;
-    if lead == 0 {
-        if k.unit {
-            return message + narrow(group::first(e)) + 1;
+    let mut i = start;
+    while i < end {
+        if bound <= x[i] {
+            return false;
         }
-        return rank::position(a, b, false, e) + 1;
+        i += 1;
     }
-    if lead == 1 {
-        return second_place(a, b, e, part, message);
-    }
-    let z = group::neg(a, b, e);
-    second_place(a, b, z, part, message) - 1
+    true
 }
 
-// The place of z, the second of its pair.
-fn second_place(a: usize, b: usize, z: Element, part: u32, message: u32) -> u32
-    requires { ⌜ Located a b part message × Valid (moduli a b) z × (lead (moduli a b) z ≡ 1) ⌝ }
-    ensures { λ p. ⌜ (1 < p) × (elementAt (moduli a b) p ≡ z) × (elementAt (moduli a b) (p - 1) ≡ negative (moduli a b) z) ⌝ }
+// Whether each component is below its modulus.
+fn is_element(a: usize, b: usize, x: Element) -> bool
+    requires { ⌜ a + b ≤ 12 ⌝ }
+    ensures { λ r. ⌜ Tells r (Valid (moduli a b) x) ⌝ }
 {
-    let k = rank::read(a, b, true, z);
-    if k.unit {
-        let i = group::first(z);
-        return message + narrow(a) + 2 * narrow(i - a) + 2;
+    if !all_below(x, 0, a, 2) {
+        return false;
     }
-    part + 2 * rank::position(a, b, true, z) + 2
+    if !all_below(x, a, a + b, 4) {
+        return false;
+    }
+    all_below(x, a + b, 12, 1)
 }
 
-// A number of components as a u32.
+// The place of an element by its sign, where part 1 has `part` places and the message `message`.
+fn place_of_valid(a: usize, b: usize, e: Element, part: u32, message: u32) -> u32
+    requires { ⌜ Located a b part message × Valid (moduli a b) e ⌝ }
+    ensures { λ p. ⌜ p ≡ placeOf (moduli a b) e ⌝ }
+{
+    let lead = descent::sign(a, b, e);
+    if lead == 0 {
+        return single_place(a, b, e, message);
+    }
+    pair_place(a, b, lead, e, part, message)
+}
+
+// The place of an element that is its own negative; zero has none.
+fn single_place(a: usize, b: usize, e: Element, message: u32) -> u32
+    requires { ⌜ Located a b (length (singles (moduli a b))) message × Valid (moduli a b) e × (lead (moduli a b) e ≡ 0) ⌝ }
+    ensures { λ p. ⌜ (p < size (moduli a b)) × (elementAt (moduli a b) p ≡ e) ⌝ }
+{
+    let k = descent::index_of(a, b, false, 1, e);
+    if k == 0 {
+        return 0;
+    }
+    let s = skip::twos_before(a, k);
+    let c = s.units;
+    let next = s.next;
+    if k == next {
+        return message + c + 1;
+    }
+    k - c
+}
+
+// The place of an element of sign 1 or 3. Times its sign it is z, the second of its pair; with sign 3
+// it stands before z.
+fn pair_place(a: usize, b: usize, lead: u8, e: Element, part: u32, message: u32) -> u32
+    requires { ⌜ Located a b part message × Signed a b true lead e ⌝ }
+    ensures { λ p. ⌜ (p < size (moduli a b)) × (elementAt (moduli a b) p ≡ e) ⌝ }
+{
+    let k = descent::index_of(a, b, true, lead, e);
+    second_place(a, b, k, part, message) - descent::wide(lead / 2)
+}
+
+// The place of z, the element at index k of those of sign 1.
+fn second_place(a: usize, b: usize, k: u32, part: u32, message: u32) -> u32
+    requires { ⌜ Located a b part message × (k < length (plus (moduli a b))) ⌝ }
+    ensures { λ p. ⌜ (1 < p) × (p < size (moduli a b)) × (elementAt (moduli a b) p ≡ standing true 1 (moduli a b) k) × (elementAt (moduli a b) (p - 1) ≡ standing true 3 (moduli a b) k) ⌝ }
+{
+    let s = skip::fours_before(a, b, k);
+    let c = s.units;
+    let next = s.next;
+    if k == next {
+        return message + narrow(a) + 2 * c + 2;
+    }
+    part + 2 * (k - c) + 2
+}
+
+// A number of components or of bits as a u32.
 fn narrow(x: usize) -> u32
-    requires { ⌜ x ≤ 12 ⌝ }
+    requires { ⌜ x ≤ 24 ⌝ }
     ensures { λ r. ⌜ r ≡ x ⌝ }
 {
     x as u32

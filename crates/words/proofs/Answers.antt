@@ -2,15 +2,14 @@
 use mathlib.Core.Path.{_≡_, refl, sym, ap, ap₂, subst, _∙_}
 use mathlib.Core.Bool.{Bool, true, false, _&&_, and-false}
 use mathlib.Core.List.{List, _++_, append-assoc}
-use Prim.Native.Nat.{ℕ, _+_, _-_, _*_, _^_, _<_, _≤_}
+use Prim.Native.Nat.{ℕ, _+_, _-_, _*_, _<_, _≤_}
 use native.Mathlib.Omega.{arith}
 use borrow.Author.Tests.{le-leb, lt-leb, eq-eqb, ne-eqb}
 use lib.Dec.{leb}
 use lib.ListN.{length, take, drop, length-append, length-drop}
-use lib.Pow.{pow-mono}
 use lib.Seq.{drop-drop, take-append-seam, drop-append-seam}
 use Rattle.group.specs.Group.{Modulus, moduli, zeros, sum, negative}
-use Rattle.layout.specs.Parameters.{longest, admits, placesOf, messageOf, moduliFor}
+use Rattle.layout.specs.Parameters.{admits, placesOf, messageOf, moduliFor}
 use Rattle.layout.specs.Layout.{units, message, slots, places}
 use Rattle.layout.specs.Gate.{gate}
 use Rattle.layout.specs.Calls.{shapeFor}
@@ -22,7 +21,7 @@ use Rattle.words.specs.Words.{combine, inverse}
 use Rattle.words.specs.Syndrome.{syndromeOver, syndrome}
 use Rattle.words.specs.Coding.{checkDigits, encode}
 use Rattle.words.specs.Calls.{syndromeFor, encodeFor, combineFor, invertFor}
-use Rattle.words.specs.Walk.{Laid}
+use Rattle.words.specs.Spread.{Laid}
 use Rattle.words.proofs.Syndromes.{syndrome-split}
 
 -- a shape with no place is that of parameters that are not admitted
@@ -56,15 +55,16 @@ module _ (t r : ℕ) (s : Shape) (k : Known t r s) where
       → f (moduli (s .a) (s .b)) ++ drop (s .places) old ≡ f (moduliFor t r) ++ drop (placesOf t) old
   over-front f old = ap₂ (λ (ms : List Modulus) (n : ℕ). f ms ++ drop n old) (moduli-known t r s k) (k .places)
 
--- what the walk asks of the numbers of a shape
+-- what the weights ask of the numbers of a shape
 pub laid : (t r : ℕ) (s : Shape) (n : ℕ) → Known t r s → s .message ≤ n → Laid (s .a) (s .b) (s .places + 1) (s .binary - s .a) n
 laid t r s n k h =
     let z = sizes-known t r s k in
-    let q : 2 ^ t ≤ 2 ^ longest = pow-mono {i = t} {j = longest} (k .admitted .most) in
+    let m = k .admitted .most in
+    let w = k .admitted .within in
+    let q = k .admitted .twice in
     record {
-      components = z .room;
+      few = omega (arith, k .a, k .b);
       all = sym (z .all);
-      few = omega (arith, k .places, q);
       front = omega (arith, z .part);
       enough = omega (arith, z .front);
     }

@@ -9,7 +9,7 @@ use Rattle.group.specs.Group.{Modulus, moduliOf, moduli, tl, zeros, negative}
 use Rattle.group.proofs.Laws.{negative-negative, negative-zeros}
 use Rattle.layout.specs.Layout.{Slot, single, pair, singles, pairs, under, units, message, slots, places}
 use Rattle.layout.specs.Claims.{Good}
-use Rattle.layout.specs.Rank.{Located}
+use Rattle.layout.specs.Parts.{Located}
 use Rattle.layout.proofs.Cover.{places-singles}
 use Rattle.layout.proofs.Sizes.{length-message}
 use Rattle.words.specs.Words.{inverse}

@@ -10,7 +10,7 @@ use Rattle.group.specs.Group.{moduli}
 use Rattle.group.proofs.Signs.{both}
 use Rattle.layout.specs.Layout.{slots, places}
 use Rattle.layout.specs.Calls.{shapeFor}
-use Rattle.layout.specs.Rank.{Located}
+use Rattle.layout.specs.Parts.{Located}
 use Rattle.layout.specs.declared.Shape.{Shape}
 use Rattle.layout.proofs.Sizes.{length-places}
 use Rattle.layout.proofs.Parameters.{Sizes, known, sizes-known}

@@ -7,17 +7,23 @@ use Prim.Native.Nat.{ℕ, zero, suc, _-_, _<_, _≤_}
 use native.Mathlib.Omega.{arith}
 use borrow.Author.Tests.{le-leb, eqb-true, eqb-false, eq-eqb, ne-eqb}
 use lib.Dec.{leb, eqb}
-use Rattle.group.specs.Group.{sum, negative}
+use Rattle.group.specs.Group.{Modulus, Valid, zeros, sum, negative, size}
+use Rattle.group.proofs.Laws.{valid-negative}
 use Rattle.layout.specs.Parameters.{admits, placesOf, moduliFor}
-use Rattle.layout.specs.Layout.{slots, placeOf}
+use Rattle.layout.specs.Layout.{slots, elementAt, placeOf}
 use Rattle.layout.specs.Calls.{shapeFor, elementFor, placeFor}
 use Rattle.layout.specs.declared.Shape.{Shape}
 use Rattle.layout.proofs.Parameters.{admits-admitted, admitted-admits, known-for, known, element-for, place-for}
+use Rattle.layout.proofs.Cover.{negative-nonzero}
+use Rattle.layout.proofs.Places.{good-slots, place-unique, one-place}
 use Rattle.words.specs.Words.{zeroWord, flip}
 use Rattle.words.specs.Syndrome.{syndrome, lengthOf}
 use Rattle.words.specs.Halves.{otherAt}
 use Rattle.words.specs.Coding.{third}
 use Rattle.words.specs.Calls.{isPlace, thirdFor, TwoPlaces}
+use Rattle.words.proofs.Reading.{valid-syndrome}
+use Rattle.words.proofs.OtherHalf.{other-negative}
+use Rattle.words.proofs.Thirds.{two-not}
 use Rattle.words.proofs.TwoOnes.{two-halves, two-apart, third-apart, third-meets}
 use Rattle.words.proofs.Theorem.{length-code}
 use Rattle.words.proofs.Shapes.{place-there}
@@ -70,9 +76,39 @@ neither-of k i j e = go (eqb k i) refl e
     go true t u = absurd (true≢false u)
     go false t u = (eqb-false k i t, eqb-false k j u)
 
+-- the place of a negative is the other half
+place-other : (ms : List Modulus) (e : List ℕ) → Valid ms e → e ≢ zeros ms
+    → (0 < placeOf ms e) × (suc (otherAt (slots ms) (placeOf ms e - 1)) ≡ placeOf ms (negative ms e))
+unfolding elementAt
+place-other ms e v n = go (one-place ms e v n .0) (one-place ms e v n .1)
+  where
+    go : (p : ℕ) → (0 < p) × (p < size ms) × (elementAt ms p ≡ e) → (0 < placeOf ms e) × (suc (otherAt (slots ms) (placeOf ms e - 1)) ≡ placeOf ms (negative ms e))
+    go zero h = absurd (omega (arith, h .0))
+    go (suc i) h =
+        let u : placeOf ms e ≡ suc i = place-unique ms e (suc i) v n (omega arith) (h .2) in
+        let k : placeOf ms e - 1 ≡ i = omega arith in (
+          omega arith,
+          ap (λ (m : ℕ). suc (otherAt (slots ms) m)) k
+              ∙ sym (place-unique ms (negative ms e) (suc (otherAt (slots ms) i)) (valid-negative ms e) (negative-nonzero ms e v n) (omega arith)
+              (other-negative ms (slots ms) i (good-slots ms) ∙ ap (negative ms) (h .2))),
+        )
+
 -- where the place of the negated syndrome is none of the two it is the third; else the place of the syndrome is
 abbrev pub minusPlace : ℕ → ℕ → ℕ → ℕ → ℕ
 minusPlace t r i j = placeFor t r (negative (moduliFor t r) (twoSyndrome t r i j))
+
+pub told-place : (t r i j : ℕ) → TwoPlaces t r i j → (p : ℕ) → p ≡ placeFor t r (twoSyndrome t r i j)
+    → (0 < p) × (suc (otherAt (slots (moduliFor t r)) (p - 1)) ≡ minusPlace t r i j)
+told-place t r zero j h p e = absurd (omega (arith, h .first))
+told-place t r (suc i) zero h p e = absurd (omega (arith, h .second))
+told-place t r (suc i) (suc j) h p e =
+    let ms = moduliFor t r in
+    let x = twoSyndrome t r (suc i) (suc j) in
+    let n = two-not ms i j (below t r i j h i (h .firstMost)) (below t r i j h j (h .secondMost)) (apart t r i j h) in
+    let o = place-other ms x (valid-syndrome ms (flip (suc j) (flip (suc i) (zeroWord (lengthOf ms))))) n in
+    let f : p ≡ placeOf ms x = e ∙ place-for t r x (h .admitted) in
+    let q = o .0 in
+    (omega arith, ap (λ (m : ℕ). suc (otherAt (slots ms) (m - 1))) f ∙ o .1 ∙ sym (place-for t r (negative ms x) (h .admitted)))
 
 pub told-third : (t r i j : ℕ) → TwoPlaces t r i j → minusPlace t r i j ≢ i → minusPlace t r i j ≢ j → minusPlace t r i j ≡ third (moduliFor t r) i j
 told-third t r zero j h a b = absurd (omega (arith, h .first))

@@ -16,7 +16,7 @@ use Rattle.group.specs.Group.{Modulus, moduli}
 use Rattle.layout.specs.Parameters.{Admitted, admits, placesOf, messageOf, binaryOf, quaternaryOf, moduliFor}
 use Rattle.layout.specs.Layout.{Slot, single, pair, slots, places}
 use Rattle.layout.specs.Calls.{shapeFor}
-use Rattle.layout.specs.Rank.{Located}
+use Rattle.layout.specs.Parts.{Located}
 use Rattle.layout.specs.declared.Shape.{Shape}
 use Rattle.layout.proofs.Sizes.{length-places}
 use Rattle.layout.proofs.Parameters.{admits-admitted, admitted-admits, below-power, known-for, known, moduli-known, length-for}

@@ -1,14 +1,14 @@
 // The check part: its digits are the components of an element, a byte for each binary one and two for
 // each quaternary one.
 ghost use mathlib.Core.Path.{_≡_};
-ghost use mathlib.Core.List.{_++_, []};
+ghost use mathlib.Core.List.{_++_};
 ghost use Prim.Native.Nat.{_+_, _*_, _≤_};
 ghost use lib.ListN.{length, take, drop};
-ghost use Rattle.group.specs.Group.{moduli, hd, tl};
+ghost use Rattle.group.specs.Group.{moduli};
 ghost use Rattle.layout.specs.Layout.{units};
-ghost use Rattle.words.specs.Digits.{gray};
 ghost use Rattle.words.specs.Syndrome.{syndromeOver};
 ghost use Rattle.words.specs.Coding.{checkDigits};
+use crate::gray;
 use group::Element;
 
 // The sum of the check places from an index of the word on: the element with these digits.
@@ -24,7 +24,7 @@ pub(crate) fn read(a: usize, b: usize, word: &[u8], start: usize) -> Element
             e[i] = word[at] % 2;
             at += 1;
         } else if i - a < b {
-            e[i] = crate::walk::digit(word[at], word[at + 1]);
+            e[i] = gray::digit(word[at], word[at + 1]);
             at += 2;
         } else {
             e[i] = 0;
@@ -32,28 +32,6 @@ pub(crate) fn read(a: usize, b: usize, word: &[u8], start: usize) -> Element
         i += 1;
     }
     e
-}
-
-// The first and the second place of a digit.
-pub(crate) fn first_half(d: u8) -> u8
-    ensures { λ r. ⌜ r ≡ hd (gray d []) ⌝ }
-{
-    if d < 2 {
-        return 0;
-    }
-    1
-}
-
-pub(crate) fn second_half(d: u8) -> u8
-    ensures { λ r. ⌜ r ≡ hd (tl (gray d [])) ⌝ }
-{
-    if d == 1 {
-        return 1;
-    }
-    if d == 2 {
-        return 1;
-    }
-    0
 }
 
 // Writes the check digits of an element from an index on.
@@ -69,8 +47,8 @@ pub(crate) fn write(a: usize, b: usize, e: Element, out: &mut [u8], start: usize
             out[at] = d;
             at += 1;
         } else if i - a < b {
-            out[at] = first_half(d);
-            out[at + 1] = second_half(d);
+            out[at] = gray::first_half(d);
+            out[at + 1] = gray::second_half(d);
             at += 2;
         }
         i += 1;

@@ -3,11 +3,12 @@
 // short. What each function answers is defined in specs/Calls.antt; the theorems on words are in
 // proofs/Theorem.antt.
 mod check;
+mod gray;
 mod halves;
 mod ones;
 mod place;
 mod sums;
-mod walk;
+mod weights;
 
 ghost use mathlib.Core.Path.{_≡_};
 ghost use Rattle.words.specs.Calls.{syndromeFor, faultFor, flipFor, widthFor, encodeFor, combineFor, invertFor, thirdFor};
@@ -31,7 +32,7 @@ pub fn syndrome(t: u32, r: u32, word: &[u8]) -> Element
     if word.len() < places {
         return none;
     }
-    let x = walk::message_sum(a, b, places + 1, binary - a, word);
+    let x = weights::message_sum(a, b, places + 1, binary - a, word);
     let y = check::read(a, b, word, message);
     group::add(a, b, x, y)
 }
@@ -56,7 +57,7 @@ pub fn encode(t: u32, r: u32, message: &[u8], out: &mut [u8])
     if out.len() < places {
         return;
     }
-    let x = walk::message_sum(a, b, places + 1, binary - a, message);
+    let x = weights::message_sum(a, b, places + 1, binary - a, message);
     let y = group::neg(a, b, x);
     check::copy(message, out);
     check::write(a, b, y, out, front);

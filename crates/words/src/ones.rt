@@ -42,17 +42,18 @@ fn is_either(k: u32, i: u32, j: u32) -> bool
     if k == i { true } else { k == j }
 }
 
-// The place whose element takes that syndrome to zero, unless it is one of the two; then the other
-// half of its pair, whose element is the syndrome.
+// The place whose element takes that syndrome to zero is the other half of the place that has it, and the
+// third place, unless it is one of the two; then the place that has the syndrome is.
 pub(crate) fn third_of(t: u32, r: u32, s: Shape, i: u32, j: u32) -> u32
     requires { ⌜ (s ≡ shapeFor t r) × TwoPlaces t r i j ⌝ }
     ensures { λ x. ⌜ x ≡ third (moduliFor t r) i j ⌝ }
 {
     let e = two_ones(t, r, s, i, j);
-    let m = group::neg(s.a, s.b, e);
-    let k = layout::place_of(t, r, m);
+    let p = layout::place_of(t, r, e);
+    let m = halves::other_index(s, (p - 1) as usize);
+    let k = (m + 1) as u32;
     if is_either(k, i, j) {
-        return layout::place_of(t, r, e);
+        return p;
     }
     k
 }

@@ -9,8 +9,7 @@ ghost use Rattle.layout.specs.Layout.{slots};
 ghost use Rattle.layout.specs.Calls.{shapeFor};
 ghost use Rattle.words.specs.Words as words;
 ghost use Rattle.words.specs.Writing.{Onward, SumsTwo, SumsFour};
-use crate::check;
-use crate::walk;
+use crate::gray;
 use layout::Shape;
 
 // The sum of two bytes modulo 2, and of two digits modulo 4; no sum of the bytes themselves wraps.
@@ -47,11 +46,11 @@ fn pairs(first: &[u8], second: &[u8], out: &mut [u8], start: usize, end: usize)
 {
     let mut i = start;
     while i < end {
-        let d = walk::digit(first[i], first[i + 1]);
-        let e = walk::digit(second[i], second[i + 1]);
+        let d = gray::digit(first[i], first[i + 1]);
+        let e = gray::digit(second[i], second[i + 1]);
         let f = sum_four(d, e);
-        out[i] = check::first_half(f);
-        out[i + 1] = check::second_half(f);
+        out[i] = gray::first_half(f);
+        out[i + 1] = gray::second_half(f);
         i += 2;
     }
 }

@@ -47,9 +47,6 @@ narrow-requires c κs = let k = sizes-known _ _ _ (past (c .before)) in omega ar
 sub-part : tie.Need-sub-part
 sub-part c = let k = sizes-known _ _ _ (past (c .before .before)) in omega arith
 
-add-message-element : tie.Need-add-message-element
-add-message-element c = let k = sizes-known _ _ _ (past (c .before .before)) in omega arith
-
 message-element-requires : tie.Need-message-element-requires
 message-element-requires c κs = let k = sizes-known _ _ _ (past (c .before .before)) in omega arith
 
@@ -104,7 +101,6 @@ element-at-spec =
     sub-i
     narrow-requires
     sub-part
-    add-message-element
     message-element-requires
     returns-3
     cast-check-element

@@ -1,49 +1,71 @@
 -- `layout::message_element` meets its contract: a single, or one of the two places of a pair. Assumes nothing.
 use borrow.Author.Needs.{needs}
-use mathlib.Core.Path.{_≡_, sym, _∙_}
-use Prim.Native.Nat.{suc, _+_, _-_, _*_, _/_}
-use native.Mathlib.Numerals.{add-one}
+use mathlib.Core.Path.{_≡_, refl, _∙_}
+use mathlib.Core.Logic.{_⊎_, inl}
+use mathlib.Core.Bool.{true}
+use Prim.Native.Nat.{_+_, _<_}
 use native.Mathlib.Omega.{arith}
 use lib.ListN.{length}
 use Rattle.group.specs.Group.{moduli}
-use Rattle.layout.specs.Layout.{singles}
-use Rattle.layout.proofs.Index.{at-single, at-pair}
+use Rattle.layout.specs.Layout.{elementAt}
+use Rattle.layout.specs.Blocks.{plus}
+use Rattle.layout.specs.Parts.{standing}
+use Rattle.layout.proofs.Standing.{singles-small, single-element, pair-half}
 use Rattle.layout.proofs.message_element.Statement.{statement}
 use Rattle.layout.proofs.message_element.Tie as tie
 
-member-requires : tie.Need-member-requires
-member-requires c κs = search needs
+single-index-requires : tie.Need-single-index-requires
+single-index-requires c κs =
+    let s = c .before in
+    let l = singles-small (s .args .a) (s .args .b) (s .pre .0) in
+    (omega arith, omega arith)
+
+element-requires : tie.Need-element-requires
+element-requires c κs =
+    let s = c .before .before in
+    let g = s .args in
+    let k = c .single-index .ensures in
+    (s .pre .0, inl refl, single-element (g .a) (g .b) (s .pre .0) (g .i) (c .single-index .result) (omega arith) (k .0) (k .1) .0)
 
 returns : tie.Need-returns
 returns c =
-    let s = c .before .before in
-    let g = s .args in
-    c .member .ensures ∙ sym (at-single (moduli (g .a) (g .b)) (g .i) (omega arith)) ∙ rw add-one
-
-member-requires-2 : tie.Need-member-requires-2
-member-requires-2 c κs = search needs
-
-neg-requires : tie.Need-neg-requires
-neg-requires c κs = search needs
-
-returns-2 : tie.Need-returns-2
-returns-2 c =
-    let s = c .before .before .before .before in
-    let g = s .args in
-    let ms = moduli (g .a) (g .b) in
-    let j = (g .i - g .part) / 2 in
-    let e : g .i + 1 ≡ suc (length (singles ms) + 2 * j) = omega arith in
-    c .neg .ensures ∙ rw (c .before .before .member2 .ensures, e) (sym (at-pair ms j (omega arith) .0))
-
-returns-3 : tie.Need-returns-3
-returns-3 c =
     let s = c .before .before .before in
     let g = s .args in
+    let k = c .before .single-index .ensures in
+    c .element .ensures ∙ single-element (g .a) (g .b) (s .pre .0) (g .i) (c .before .single-index .result) (omega arith) (k .0) (k .1) .1
+
+pair-index-requires : tie.Need-pair-index-requires
+pair-index-requires c κs = search needs
+
+factor-requires : tie.Need-factor-requires
+factor-requires c κs = search needs
+
+-- what is known of a pair's place
+half : (c : tie.After-factor)
+    → let g = c .before .before .before .args in
+    let k = c .before .pair-index .result in
     let ms = moduli (g .a) (g .b) in
-    let j = (g .i - g .part) / 2 in
-    let e : g .i + 1 ≡ suc (length (singles ms) + suc (2 * j)) = omega arith in
-    c .before .member2 .ensures ∙ rw e (sym (at-pair ms j (omega arith) .1))
+    (k < length (plus ms)) × ((c .factor .result ≡ 1) ⊎ (c .factor .result ≡ 3)) × (standing true (c .factor .result) ms k ≡ elementAt ms (g .i + 1))
+half c =
+    let s = c .before .before .before in
+    let g = s .args in
+    let k = c .before .pair-index .ensures in
+    pair-half (g .a) (g .b) (s .pre .0) (g .i) (g .part) _ _ (s .pre .1) (c .before .before .if1 .left) (s .pre .2) (k .0) (k .1) (c .factor .ensures)
+
+element-requires-2 : tie.Need-element-requires-2
+element-requires-2 c κs = (c .before .before .before .pre .0, half c .1, half c .0)
+
+returns-2 : tie.Need-returns-2
+returns-2 c = c .element2 .ensures ∙ half (c .before) .2
 
 pub message-element-spec : {M : Type 1} → statement M
 message-element-spec =
-    tie.close (tie.spec member-requires returns member-requires-2 neg-requires returns-2 returns-3)
+    tie.close
+    (tie.spec
+    single-index-requires
+    element-requires
+    returns
+    pair-index-requires
+    factor-requires
+    element-requires-2
+    returns-2)

@@ -1,7 +1,9 @@
 //! Times the library, the second program and the program by tables in one run:
 //! `bench [--quick] [--csv FILE] [--plot FILE]`. Ratios are printed, never asserted; that the
-//! three give the same answers and outputs is asserted before each measurement.
+//! three, and every copy of the library, give the same answers and outputs is asserted before each
+//! measurement.
 
+mod copies;
 mod measure;
 mod plot;
 mod programs;
@@ -18,8 +20,8 @@ use std::process::ExitCode;
 const USAGE: &str = "usage: bench [--quick] [--csv FILE] [--plot FILE]";
 const FOLDER: &str = concat!(env!("CARGO_MANIFEST_DIR"), "/../../../target/host");
 const FULL: Effort = Effort {
-    passes: 15,
-    batches: 21,
+    passes: 24,
+    batches: 6,
     batch_ns: 300_000.0,
 };
 /// Enough to see that everything runs, not for figures.
@@ -70,7 +72,7 @@ fn measure_all(effort: Effort) -> Vec<Figures> {
     for pass in 1..=effort.passes {
         cells
             .iter_mut()
-            .for_each(|cell| cell.measure(effort.batches));
+            .for_each(|cell| cell.measure(pass, effort.batches));
         eprintln!("pass {pass} of {}", effort.passes);
     }
     cells.into_iter().map(Cell::figures).collect()

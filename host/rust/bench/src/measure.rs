@@ -1,25 +1,31 @@
 //! Times each operation on each code by the three programs in turn, batch by batch, so that what
 //! disturbs the machine for a moment disturbs all three alike. What disturbs it for seconds is
 //! met by all operations, since they take turns too: a run passes over all of them several times.
+//! In each pass an operation is timed with every copy of the library.
 
+use crate::copies::COPIES;
 use crate::programs::{Library, Program, Table};
-use crate::samples::{Operation, Sample};
+use crate::samples::{Operation, Sample, SAMPLES};
 use second::Code;
 use std::hint::black_box;
 use std::time::Instant;
 
 /// The three programs on one code, everything that is built once built.
 pub struct Programs {
-    pub library: Library,
+    /// One for each copy.
+    libraries: Vec<Library>,
     pub second: Code,
-    pub table: Table,
+    table: Table,
 }
+
+/// Of the library, the second program and the program by tables, in this order.
+type Each<T> = [T; 3];
 
 /// How long to measure.
 #[derive(Clone, Copy)]
 pub struct Effort {
     pub passes: usize,
-    /// For each operation in each pass.
+    /// For each operation and each copy of the library in each pass.
     pub batches: usize,
     /// A batch goes through the samples until it has taken about this long.
     pub batch_ns: f64,
@@ -33,7 +39,7 @@ pub struct Spread {
     pub high: f64,
 }
 
-/// Nanoseconds a call, and the ratios batch by batch.
+/// Nanoseconds a call, and the ratios batch by batch, over all copies of the library.
 pub struct Figures {
     pub t: u32,
     pub r: u32,
@@ -44,54 +50,52 @@ pub struct Figures {
     pub table: Spread,
     pub to_table: Spread,
     pub to_second: Spread,
+    /// The median ratio to the tables of each copy alone.
+    pub copies: [f64; COPIES.len()],
 }
 
-/// One operation on one code, and the times of each program's batches so far.
+/// One operation on one code, and the batches so far.
 pub struct Cell<'a> {
     programs: &'a Programs,
     operation: Operation,
     samples: Vec<Sample>,
-    rounds: [usize; 3],
-    times: [Vec<f64>; 3],
+    rounds: Each<usize>,
+    turns: Vec<Turn>,
+}
+
+/// A batch of each program, the library's by one of its copies: nanoseconds a call.
+struct Turn {
+    copy: usize,
+    times: Each<f64>,
 }
 
 impl Programs {
     pub fn of(t: u32, r: u32) -> Option<Programs> {
         let second = Code::open(t, r).ok()?;
         let table = Table::prepare(t, r);
-        let library = Library { t, r };
+        let libraries = COPIES.map(|calls| Library { t, r, calls }).into();
         Some(Programs {
-            library,
+            libraries,
             second,
             table,
         })
     }
 
-    fn batch(
-        &self,
-        program: usize,
-        operation: Operation,
-        samples: &[Sample],
-        rounds: usize,
-    ) -> f64 {
-        let mut out = vec![0; self.second.length()];
-        match program {
-            0 => batch(&self.library, operation, samples, &mut out, rounds),
-            1 => batch(&self.second, operation, samples, &mut out, rounds),
-            _ => batch(&self.table, operation, samples, &mut out, rounds),
-        }
-    }
-
-    /// Before anything is timed: the three accept every sample and write the same.
+    /// Before anything is timed: all accept every sample and write the same.
     fn agree(&self, operation: Operation, samples: &[Sample]) {
         let n = self.second.length();
         for sample in samples {
-            let ours = outcome(&self.library, operation, sample, n);
-            assert!(ours.0 >= 0, "{operation:?} is refused: {}", ours.0);
             let second = outcome(&self.second, operation, sample, n);
+            assert!(second.0 >= 0, "{operation:?} is refused: {}", second.0);
+            for (number, library) in (1..).zip(&self.libraries) {
+                let ours = outcome(library, operation, sample, n);
+                assert_eq!(
+                    ours, second,
+                    "{operation:?}: copy {number} and second program"
+                );
+            }
             let table = outcome(&self.table, operation, sample, n);
-            assert_eq!(ours, second, "{operation:?}: library and second program");
-            assert_eq!(ours, table, "{operation:?}: library and program by tables");
+            assert_eq!(table, second, "{operation:?}: tables and second program");
         }
     }
 }
@@ -100,56 +104,85 @@ impl<'a> Cell<'a> {
     pub fn new(programs: &'a Programs, operation: Operation, batch_ns: f64) -> Cell<'a> {
         let samples = operation.samples(&programs.second);
         programs.agree(operation, &samples);
-        let rounds = [0, 1, 2].map(|program| {
-            let a_call = programs.batch(program, operation, &samples, 2);
-            (batch_ns / (a_call * samples.len() as f64)).ceil() as usize
-        });
-        let times = [vec![], vec![], vec![]];
-        Cell {
+        let mut cell = Cell {
             programs,
             operation,
             samples,
-            rounds,
-            times,
+            rounds: [2; 3],
+            turns: vec![],
+        };
+        let short = cell.turn(0, 0);
+        let rounds = |a_call: f64| (batch_ns / (a_call * SAMPLES as f64)).ceil() as usize;
+        cell.rounds = short.times.map(rounds);
+        cell
+    }
+
+    /// A pass, with a round of each program to warm up. Each copy in turn comes first.
+    pub fn measure(&mut self, pass: usize, batches: usize) {
+        for program in 1..3 {
+            self.batch(program, 0, 1);
+        }
+        for copy in (0..COPIES.len()).map(|i| (pass + i) % COPIES.len()) {
+            self.batch(0, copy, 1);
+            for first in 0..batches {
+                let turn = self.turn(copy, first);
+                self.turns.push(turn);
+            }
         }
     }
 
-    /// A pass, after a round of each program to warm up.
-    pub fn measure(&mut self, batches: usize) {
-        let Cell {
-            programs,
-            operation,
-            samples,
-            rounds,
-            times,
-        } = self;
-        for program in 0..3 {
-            programs.batch(program, *operation, samples, 1);
+    /// The programs in their order, which begins by `first` and goes round.
+    fn turn(&self, copy: usize, first: usize) -> Turn {
+        let mut times = [0.0; 3];
+        for program in (0..3).map(|i| (first + i) % 3) {
+            times[program] = self.batch(program, copy, self.rounds[program]);
         }
-        for turn in 0..batches {
-            // Each program in turn comes first.
-            for program in (0..3).map(|i| (turn + i) % 3) {
-                let time = programs.batch(program, *operation, samples, rounds[program]);
-                times[program].push(time);
-            }
+        Turn { copy, times }
+    }
+
+    fn batch(&self, program: usize, copy: usize, rounds: usize) -> f64 {
+        let Programs {
+            libraries,
+            second,
+            table,
+        } = self.programs;
+        let (operation, samples) = (self.operation, &self.samples);
+        let mut out = vec![0; second.length()];
+        match program {
+            0 => batch(&libraries[copy], operation, samples, &mut out, rounds),
+            1 => batch(second, operation, samples, &mut out, rounds),
+            _ => batch(table, operation, samples, &mut out, rounds),
         }
     }
 
     pub fn figures(self) -> Figures {
         let code = &self.programs.second;
-        let [library, second, table] = self.times;
+        let all = |figure: fn(&Turn) -> f64| spread(self.turns.iter().map(figure).collect());
         Figures {
             t: code.t(),
             r: code.r(),
             n: code.length(),
             operation: self.operation,
-            to_table: spread(ratios(&library, &table)),
-            to_second: spread(ratios(&library, &second)),
-            library: spread(library),
-            second: spread(second),
-            table: spread(table),
+            library: all(|turn| turn.times[0]),
+            second: all(|turn| turn.times[1]),
+            table: all(|turn| turn.times[2]),
+            to_table: all(to_table),
+            to_second: all(|turn| turn.times[0] / turn.times[1]),
+            copies: by_copy(&self.turns),
         }
     }
+}
+
+fn to_table(turn: &Turn) -> f64 {
+    turn.times[0] / turn.times[2]
+}
+
+/// The median ratio to the tables of each copy alone.
+fn by_copy(turns: &[Turn]) -> [f64; COPIES.len()] {
+    std::array::from_fn(|copy| {
+        let its = turns.iter().filter(|turn| turn.copy == copy);
+        spread(its.map(to_table).collect()).median
+    })
 }
 
 fn outcome<P: Program>(
@@ -179,13 +212,6 @@ fn batch<P: Program>(
     start.elapsed().as_nanos() as f64 / (rounds * samples.len()) as f64
 }
 
-fn ratios(ours: &[f64], others: &[f64]) -> Vec<f64> {
-    ours.iter()
-        .zip(others)
-        .map(|(ours, other)| ours / other)
-        .collect()
-}
-
 fn spread(mut values: Vec<f64>) -> Spread {
     values.sort_by(f64::total_cmp);
     let at = |quarter: usize| values[(values.len() - 1) * quarter / 4];
@@ -204,5 +230,24 @@ mod tests {
     fn quartiles_of_unsorted_values() {
         let Spread { low, median, high } = spread(vec![5.0, 1.0, 4.0, 2.0, 3.0]);
         assert_eq!([low, median, high], [2.0, 3.0, 4.0]);
+    }
+
+    #[test]
+    fn ratios_by_copy() {
+        let turn = |(copy, ours)| Turn {
+            copy,
+            times: [ours, 0.0, 2.0],
+        };
+        let times = [(0, 2.0), (3, 9.0), (1, 4.0), (2, 6.0), (3, 8.0), (3, 7.0)];
+        assert_eq!(by_copy(&times.map(turn)), [1.0, 2.0, 3.0, 4.0]);
+    }
+
+    #[test]
+    #[should_panic(expected = "copy 3")]
+    fn a_wrong_copy_is_found_out() {
+        let mut programs = Programs::of(4, 3).expect("admitted");
+        let calls = &mut programs.libraries[2].calls;
+        calls.encode = calls.correct;
+        Cell::new(&programs, Operation::Encode, 1.0);
     }
 }

@@ -1,5 +1,6 @@
 //! The three programs behind one trait, so that all are timed by the same loop.
 
+use crate::copies::Calls;
 use second::{signed, Code};
 use std::ffi::c_void;
 
@@ -11,27 +12,44 @@ pub trait Program {
     fn third_place(&self, i: u32, j: u32) -> i32;
 }
 
-/// The C library keeps nothing between calls.
+/// A copy of the C library, which keeps nothing between calls.
 pub struct Library {
     pub t: u32,
     pub r: u32,
+    pub calls: Calls,
 }
 
+// Every pointer is to as many bytes as its length says, and borrowing keeps `out` apart.
 impl Program for Library {
     fn encode(&self, message: &[u8], out: &mut [u8]) -> i32 {
-        calls::encode(self.t, self.r, message, out)
+        let (from, to) = (message.as_ptr(), out.as_mut_ptr());
+        unsafe { (self.calls.encode)(self.t, self.r, from, message.len(), to, out.len()) }
     }
 
     fn correct(&self, word: &[u8], out: &mut [u8]) -> i32 {
-        calls::correct(self.t, self.r, word, out)
+        let (from, to) = (word.as_ptr(), out.as_mut_ptr());
+        unsafe { (self.calls.correct)(self.t, self.r, from, word.len(), to, out.len()) }
     }
 
     fn combine(&self, first: &[u8], second: &[u8], out: &mut [u8]) -> i32 {
-        calls::combine(self.t, self.r, first, second, out)
+        let (x, y, to) = (first.as_ptr(), second.as_ptr(), out.as_mut_ptr());
+        let combine = self.calls.combine;
+        unsafe {
+            combine(
+                self.t,
+                self.r,
+                x,
+                first.len(),
+                y,
+                second.len(),
+                to,
+                out.len(),
+            )
+        }
     }
 
     fn third_place(&self, i: u32, j: u32) -> i32 {
-        calls::third_place(self.t, self.r, i, j)
+        unsafe { (self.calls.third_place)(self.t, self.r, i, j) }
     }
 }
 
@@ -95,6 +113,16 @@ impl Table {
     pub fn prepare(t: u32, r: u32) -> Table {
         Table(unsafe { c::table_prepare(t, r) })
     }
+
+    /// Where each call begins, in the order of the trait.
+    pub fn addresses() -> [usize; 4] {
+        [
+            c::table_encode as *const () as usize,
+            c::table_correct as *const () as usize,
+            c::table_combine as *const () as usize,
+            c::table_third_place as *const () as usize,
+        ]
+    }
 }
 
 impl Drop for Table {
@@ -103,7 +131,7 @@ impl Drop for Table {
     }
 }
 
-// Every pointer is to as many bytes as its length says, and borrowing keeps `out` apart.
+// As in the library's.
 impl Program for Table {
     fn encode(&self, message: &[u8], out: &mut [u8]) -> i32 {
         let (from, to) = (message.as_ptr(), out.as_mut_ptr());

@@ -1,5 +1,6 @@
-//! The benchmark runs through, which asserts that the three programs agree on every input, and
-//! writes its files whole. What it measures so quickly is not looked at.
+//! The benchmark runs through, which asserts that the three programs, and all copies of the
+//! library, agree on every input, and writes its files whole. What it measures so quickly is not
+//! looked at.
 
 use std::fs;
 use std::path::Path;
@@ -24,13 +25,14 @@ fn runs_and_writes_its_files() {
     let csv = fs::read_to_string(csv).expect("figures");
     let rows: Vec<&str> = csv.lines().collect();
     assert_eq!(rows.len(), 1 + 18 * 6 - 4);
+    // Three for each program and each of the two ratios, and a ratio for each copy of the library.
     let figures = |row: &str| {
         row.rsplit(',')
-            .take(15)
+            .take(19)
             .filter(|f| f.parse::<f64>().is_ok())
             .count()
     };
-    assert!(rows[1..].iter().all(|row| figures(row) == 15));
+    assert!(rows[1..].iter().all(|row| figures(row) == 19));
 
     // Two panels of six lines, each with a point for four lengths.
     let plot = fs::read_to_string(plot).expect("a plot");

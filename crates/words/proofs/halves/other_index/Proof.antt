@@ -3,7 +3,7 @@ use borrow.Author.Needs.{needs}
 use mathlib.Core.Path.{sym, _∙_}
 use Prim.Native.Nat.{ℕ, _-_, _<_}
 use native.Mathlib.Omega.{arith}
-use Rattle.layout.specs.Rank.{Located}
+use Rattle.layout.specs.Parts.{Located}
 use Rattle.layout.specs.declared.Shape.{Shape}
 use Rattle.layout.proofs.Parameters.{Sizes}
 use Rattle.words.proofs.OtherHalf.{other-one, other-two, other-three, other-four}

@@ -1,0 +1,95 @@
+-- Lists of numbers with each one twice, and lists by sign with one binary component more. Assumes nothing.
+use mathlib.Core.Path.{_≡_, refl, sym, ap, ap₂, _∙_}
+use mathlib.Core.List.{List, [], _∷_, _++_}
+use mathlib.Core.Bool.{Bool, not}
+use Prim.Native.Nat.{ℕ, zero, suc, _+_, _*_, _%_, _<_}
+use native.Mathlib.Omega.{arith}
+use lib.Dec.{eqb}
+use lib.ListN.{length}
+use Rattle.group.specs.Group.{Modulus, one, two, four, element, size}
+use Rattle.group.specs.Sign.{lead}
+use Rattle.group.specs.Weights.{moved}
+use Rattle.group.proofs.Fill.{length-element}
+use Rattle.group.proofs.Snoc.{element-snoc, size-snoc}
+use Rattle.group.proofs.Weights.{Below}
+use Rattle.layout.specs.Layout.{from}
+use Rattle.layout.specs.Blocks as blocks
+use Rattle.layout.specs.Blocks.{select, signAt}
+use Rattle.layout.proofs.Lists.{from-append}
+use Rattle.layout.proofs.Blocks.{select-append, select-run}
+use Rattle.folds.specs.Folds.{twice}
+
+pub twice-append : (xs ys : List ℕ) → twice (xs ++ ys) ≡ twice xs ++ twice ys
+unfolding twice
+twice-append [] ys = refl
+twice-append (x ∷ xs) ys = ap {B = List ℕ} (λ (r : List ℕ). x ∷ x ∷ r) (twice-append xs ys)
+
+pub twice-moved : (c : ℕ) (xs : List ℕ) → twice (moved c xs) ≡ moved c (twice xs)
+unfolding twice moved
+twice-moved c [] = refl
+twice-moved c (x ∷ xs) = ap {B = List ℕ} (λ (r : List ℕ). (x + c) ∷ (x + c) ∷ r) (twice-moved c xs)
+
+pub length-twice : (xs : List ℕ) → length (twice xs) ≡ 2 * length xs
+unfolding twice
+length-twice [] = refl
+length-twice (x ∷ xs) = let i = length-twice xs in omega arith
+
+pub below-twice : (n : ℕ) (xs : List ℕ) → Below n xs → Below n (twice xs)
+unfolding twice
+below-twice n [] h = tt
+below-twice n (x ∷ xs) h = (h .0, (h .0, below-twice n xs (h .1)))
+
+-- two and four blocks
+pub twice-two : (c0 c1 : ℕ) (x0 x1 : List ℕ) → twice (moved c0 x0 ++ moved c1 x1) ≡ moved c0 (twice x0) ++ moved c1 (twice x1)
+twice-two c0 c1 x0 x1 = twice-append (moved c0 x0) (moved c1 x1) ∙ ap₂ {C = List ℕ} _++_ (twice-moved c0 x0) (twice-moved c1 x1)
+
+module _ (c0 c1 c2 c3 : ℕ) (x0 x1 x2 x3 : List ℕ) where
+  pub twice-four : twice (moved c0 x0 ++ (moved c1 x1 ++ (moved c2 x2 ++ moved c3 x3)))
+      ≡ moved c0 (twice x0) ++ (moved c1 (twice x1) ++ (moved c2 (twice x2) ++ moved c3 (twice x3)))
+  twice-four =
+      twice-append (moved c0 x0) (moved c1 x1 ++ (moved c2 x2 ++ moved c3 x3))
+      ∙ ap₂ {C = List ℕ} _++_ (twice-moved c0 x0)
+      (twice-append (moved c1 x1) (moved c2 x2 ++ moved c3 x3)
+      ∙ ap₂ {C = List ℕ} _++_ (twice-moved c1 x1)
+      (twice-append (moved c2 x2) (moved c3 x3) ∙ ap₂ {C = List ℕ} _++_ (twice-moved c2 x2) (twice-moved c3 x3)))
+
+-- ---- one binary component more
+lead-two : (ms : List Modulus) (e : List ℕ) (d : ℕ) → length e ≡ length ms → lead (ms ++ two ∷ []) (e ++ (d ∷ [])) ≡ lead ms e
+unfolding lead
+lead-two [] [] d h = refl
+lead-two [] (x ∷ e) d h = absurd (omega arith)
+lead-two (m ∷ ms) [] d h = absurd (omega arith)
+lead-two (one ∷ ms) (x ∷ e) d h = lead-two ms e d (omega arith)
+lead-two (two ∷ ms) (x ∷ e) d h = lead-two ms e d (omega arith)
+lead-two (four ∷ ms) (zero ∷ e) d h = lead-two ms e d (omega arith)
+lead-two (four ∷ ms) (suc zero ∷ e) d h = refl
+lead-two (four ∷ ms) (suc (suc zero) ∷ e) d h = lead-two ms e d (omega arith)
+lead-two (four ∷ ms) (suc (suc (suc x)) ∷ e) d h = refl
+
+sign-two : (ms : List Modulus) (d y : ℕ) → y < size ms → signAt (ms ++ two ∷ []) (y + size ms * d) ≡ signAt ms y
+sign-two ms d y h = ap (lead (ms ++ two ∷ [])) (element-snoc ms two d y h) ∙ lead-two ms (element ms y) (d % 2) (length-element ms y)
+
+-- the numbers whose sign passes a test: those of the digit 0, then those of the digit 1
+by-two : (f : ℕ → Bool) (ms : List Modulus) → select (λ x. f (signAt (ms ++ two ∷ []) x)) (from 0 (size (ms ++ two ∷ [])))
+    ≡ moved (size ms * 0) (select (λ x. f (signAt ms x)) (from 0 (size ms))) ++ moved (size ms * 1) (select (λ x. f (signAt ms x)) (from 0 (size ms)))
+by-two f ms =
+    let n = size ms in
+    let p : ℕ → Bool = λ x. f (signAt (ms ++ two ∷ []) x) in
+    let q : ℕ → Bool = λ x. f (signAt ms x) in
+    let s : size (ms ++ two ∷ []) ≡ n + n = size-snoc ms two ∙ omega arith in
+    let a0 : 0 + n * 0 ≡ 0 = omega arith in
+    let a1 : 0 + n * 1 ≡ 0 + n = omega arith in
+    let r0 : select p (from (0 + n * 0) n) ≡ moved (n * 0) (select q (from 0 n)) = select-run p q (n * 0) 0 n (λ y l. ap f (sign-two ms 0 y (omega arith))) in
+    let r1 : select p (from (0 + n * 1) n) ≡ moved (n * 1) (select q (from 0 n)) = select-run p q (n * 1) 0 n (λ y l. ap f (sign-two ms 1 y (omega arith))) in
+    ap (λ (k : ℕ). select p (from 0 k)) s
+    ∙ ap (select p) (from-append 0 n n)
+    ∙ select-append p (from 0 n) (from (0 + n) n)
+    ∙ ap₂ {C = List ℕ} _++_ (ap (λ (k : ℕ). select p (from k n)) (sym a0) ∙ r0) (ap (λ (k : ℕ). select p (from k n)) (sym a1) ∙ r1)
+
+pub low-two : (ms : List Modulus) → blocks.low (ms ++ two ∷ []) ≡ moved (size ms * 0) (blocks.low ms) ++ moved (size ms * 1) (blocks.low ms)
+unfolding blocks.low
+low-two ms = by-two (λ l. not (eqb l 3)) ms
+
+pub even-two : (ms : List Modulus) → blocks.even (ms ++ two ∷ []) ≡ moved (size ms * 0) (blocks.even ms) ++ moved (size ms * 1) (blocks.even ms)
+unfolding blocks.even
+even-two ms = by-two (λ l. eqb l 0) ms

@@ -1,0 +1,110 @@
+-- `folds::first_plus` meets its contract. Assumes nothing.
+use borrow.Author.Needs.{needs}
+use Prim.Native.Nat.{_-_}
+use Rattle.folds.specs.Folds.{firstPlus, firstTops}
+use Rattle.folds.proofs.Offs.{length-first-plus}
+use Rattle.folds.proofs.Gathers.{Gathering, first-start, first-step, gather-done}
+use Rattle.folds.proofs.first_plus.Statement.{statement}
+use Rattle.folds.proofs.first_plus.Tie as tie
+use Rattle.folds.proofs.first_plus.Reads as reads
+use Rattle.folds.proofs.first_plus.Lts as lts
+use Rattle.std.proofs.num.wrapping_add_u8.Reads as wrapping-add-u8-reads
+
+abbrev Inv-loop : tie.InvT-loop
+Inv-loop p m v₀ c₀ i₀ v c i = Gathering 0 (firstPlus p m v₀) (firstTops p m v₀) v₀ v c i
+
+abbrev μ-loop : tie.MeasureT-loop
+μ-loop p m v₀ c₀ i₀ v c i = p - i
+
+loop-holds : tie.Need-loop-holds Inv-loop μ-loop
+loop-holds c = first-start _ _ _ (c .before .pre .0)
+
+add-x : tie.Need-add-x Inv-loop μ-loop
+add-x c = search needs
+
+add-x-2 : tie.Need-add-x-2 Inv-loop μ-loop
+add-x-2 c = search needs
+
+slice-read-x : tie.Need-slice-read-x Inv-loop μ-loop
+slice-read-x c = search needs
+
+mul-y : tie.Need-mul-y Inv-loop μ-loop
+mul-y c = search needs
+
+add-y : tie.Need-add-y Inv-loop μ-loop
+add-y c = search needs
+
+add-y-2 : tie.Need-add-y-2 Inv-loop μ-loop
+add-y-2 c = search needs
+
+slice-read-y : tie.Need-slice-read-y Inv-loop μ-loop
+slice-read-y c = search needs
+
+mul-wrapping-add-u8 : tie.Need-mul-wrapping-add-u8 Inv-loop μ-loop
+mul-wrapping-add-u8 c = search needs
+
+mul-wrapping-add-u8-2 : tie.Need-mul-wrapping-add-u8-2 Inv-loop μ-loop
+mul-wrapping-add-u8-2 c = search needs
+
+add-wrapping-add-u8 : tie.Need-add-wrapping-add-u8 Inv-loop μ-loop
+add-wrapping-add-u8 c = search needs
+
+wrapping-add-u8-requires : tie.Need-wrapping-add-u8-requires Inv-loop μ-loop
+wrapping-add-u8-requires c κs = search needs
+
+slice-read-v : tie.Need-slice-read-v Inv-loop μ-loop
+slice-read-v c = search needs
+
+add-v : tie.Need-add-v Inv-loop μ-loop
+add-v c = search needs
+
+add-v-2 : tie.Need-add-v-2 Inv-loop μ-loop
+add-v-2 c = search needs
+
+slice-write-v : tie.Need-slice-write-v Inv-loop μ-loop
+slice-write-v c = search needs
+
+add-i : tie.Need-add-i Inv-loop μ-loop
+add-i c = search needs
+
+loop-less : tie.Need-loop-less Inv-loop μ-loop
+loop-less c = search needs
+
+loop-again : tie.Need-loop-again Inv-loop μ-loop
+loop-again c =
+    let l = c .before .before .before .before in
+    first-step _ _ _ (l .before .before .before .pre .0) _ _ _ _ (l .before .loop .inv) (l .loop-test .taken) (c .before .wrapping-add-u8 .ensures)
+
+same-length : tie.Need-same-length Inv-loop μ-loop
+same-length c = search needs
+
+returns : tie.Need-returns Inv-loop μ-loop
+returns c = gather-done _ _ _ _ _ _ _ _ (c .before .loop .inv) (c .loop-test .left) (length-first-plus _ _ _ (c .before .before .before .pre .0))
+
+pub first-plus-spec : {M : Type 1} → statement M
+first-plus-spec =
+    tie.close
+    (tie.spec
+    Inv-loop
+    μ-loop
+    loop-holds
+    add-x
+    add-x-2
+    slice-read-x
+    mul-y
+    add-y
+    add-y-2
+    slice-read-y
+    mul-wrapping-add-u8
+    mul-wrapping-add-u8-2
+    add-wrapping-add-u8
+    wrapping-add-u8-requires
+    slice-read-v
+    add-v
+    add-v-2
+    slice-write-v
+    add-i
+    loop-less
+    loop-again
+    same-length
+    returns)
