@@ -9,9 +9,9 @@ use lib.ListN.{length, take, drop, set, length-set, length-append}
 use lib.Seq.{paste, take-suc, take-add, take-at, drop-at, drop-drop, drop-cons, drop-set-lt, append-snoc, length-take-le, lt-length-set, getD-set-same, take-all}
 use borrow.Author.Tests.{lt-ltb, le-ltb}
 use Rattle.group.specs.Group.{Modulus, one, two, four, radix, moduli, size}
-use Rattle.group.specs.Weights.{weighOn, moved, added, total}
+use Rattle.group.specs.Weights.{weighOn, shifted, added, total, Below}
 use Rattle.group.proofs.Fill.{length-moduli, moduli-two, moduli-four}
-use Rattle.group.proofs.Weights.{length-moved, length-on, Below}
+use Rattle.group.proofs.Weights.{length-shifted, length-on}
 use Rattle.folds.specs.Folds.{room, stretch, stride, Doubling, Halved}
 use Rattle.folds.proofs.Offs.{two-off, length-stretch}
 use Rattle.folds.proofs.Gathers.{halve-length}
@@ -82,7 +82,7 @@ module _ (a b i : ℕ) (few : a + b ≤ 12) (k : i < a + b) (L M : List ℕ) (st
   halves-of : stretch start (h + h) v ≡ low ++ high
   halves-of = take-add h h (drop start v) ∙ ap (λ (r : List ℕ). low ++ take h r) (drop-drop h start v)
 
-  pub component-off : Below (size ms) M → L ≡ moved (size ms * 0) M ++ moved (size ms * stride a i) M → length M ≡ h → start + (h + h) ≤ length v
+  pub component-off : Below (size ms) M → L ≡ shifted (size ms * 0) M ++ shifted (size ms * stride a i) M → length M ≡ h → start + (h + h) ≤ length v
       → c ≡ total high % 4 % 2 → weighOn (take (suc i) (moduli a b)) L (stretch start (h + h) v) ≡ weighOn ms M (added low high) ++ (stride a i * c ∷ [])
   component-off d e l f g = go (decLt i a)
     where
@@ -102,8 +102,8 @@ module _ (a b i : ℕ) (few : a + b ≤ 12) (k : i < a + b) (L M : List ℕ) (st
           → (total low * (0 % radix m) % radix m + total high * (n % radix m) % radix m) % radix m ≡ n * c
           → weighOn (take (suc i) (moduli a b)) L (stretch start (h + h) v) ≡ weighOn ms M (added low high) ++ (stride a i * c ∷ [])
       off m n x y z =
-          ap₂ (λ (t : List Modulus) (u : List ℕ). weighOn t u (stretch start (h + h) v)) x (e ∙ ap (λ (j : ℕ). moved (size ms * 0) M ++ moved (size ms * j) M) y)
-          ∙ ap (weighOn (ms ++ m ∷ []) (moved (size ms * 0) M ++ moved (size ms * n) M)) halves-of
+          ap₂ (λ (t : List Modulus) (u : List ℕ). weighOn t u (stretch start (h + h) v)) x (e ∙ ap (λ (j : ℕ). shifted (size ms * 0) M ++ shifted (size ms * j) M) y)
+          ∙ ap (weighOn (ms ++ m ∷ []) (shifted (size ms * 0) M ++ shifted (size ms * n) M)) halves-of
           ∙ two-off ms m n M d low high l0 l1
           ∙ ap (λ (j : ℕ). weighOn ms M (added low high) ++ (j ∷ [])) (z ∙ ap (λ (j : ℕ). j * c) (sym y))
 
@@ -168,7 +168,7 @@ halving-step a b top start n v₀ x v r h (suc i) f z c d w e g l =
         let ms = take i (moduli a b) in
         let G = t .grows i (omega arith) in
         let len : length (L (suc i)) ≡ length (L i) + length (L i) =
-        ap length G ∙ length-append (moved (size ms * 0) (L i)) (moved (size ms * stride a i) (L i)) ∙ ap₂ _+_ (length-moved (size ms * 0) (L i)) (length-moved (size ms * stride a i) (L i)) in
+        ap length G ∙ length-append (shifted (size ms * 0) (L i)) (shifted (size ms * stride a i) (L i)) ∙ ap₂ _+_ (length-shifted (size ms * 0) (L i)) (length-shifted (size ms * stride a i) (L i)) in
         let q : length (L i) ≡ s = omega arith in
         let hh : h ≡ s + s = omega arith in
         let j : suc i - 1 ≡ i = omega arith in

@@ -7,12 +7,12 @@ use native.Mathlib.Omega.{arith}
 use lib.ListN.{length, take, drop, set, length-set, length-append}
 use lib.Seq.{paste, length-paste, take-paste, drop-paste, take-all, drop-cons, drop-set-lt, drop-drop, append-snoc, lt-length-set, getD-set-same}
 use Rattle.group.specs.Group.{Modulus, four, moduli, sum, times, element, size}
-use Rattle.group.specs.Weights.{weighOn, moved, added, total}
+use Rattle.group.specs.Weights.{weighOn, shifted, added, total}
 use Rattle.group.proofs.Fill.{sum-mod}
 use Rattle.layout.specs.Blocks as blocks
 use Rattle.layout.specs.Blocks.{level, evenTo}
 use Rattle.layout.proofs.Blocks.{next, plus-blocks, low-blocks}
-use Rattle.layout.proofs.Levels.{below-plus, below-low, level-next, level-none, plus-none, size-next, even-next, counts, size-twos}
+use Rattle.layout.proofs.Levels.{below-plus, below-low, level-next, level-none, plus-none, size-next, even-next, level-counts, size-twos}
 use Rattle.folds.specs.Folds.{widest, room, stretch, twice, both, nextPlus, plusTops, nextLow, lowTops, stride, Doubling, Halved}
 use Rattle.folds.proofs.Twice.{length-twice, below-twice, twice-two, twice-four, low-two}
 use Rattle.folds.proofs.Offs.{four-lengths, level-off, length-plus, length-low}
@@ -54,7 +54,7 @@ module _ (a b : ℕ) (few : a + 2 * b ≤ widest) where
   pub blocks-at : (j : ℕ) → j ≤ b → (n e : ℕ) → n ≡ size (level a b j) → e ≡ evenTo a b j
       → (length (twice (blocks.plus (level a b j))) ≡ n - e) × (length (twice (blocks.low (level a b j))) ≡ n + e) × (e ≤ n)
   blocks-at j h n e x y =
-      let c = counts a b twelve j h in
+      let c = level-counts a b twelve j h in
       let c0 = c .0 in
       let c1 = c .1 in
       let l = length-twice (blocks.plus (level a b j)) in
@@ -63,7 +63,7 @@ module _ (a b : ℕ) (few : a + 2 * b ≤ widest) where
 
   pub length-both : (j : ℕ) → j ≤ b → length (both a b j) ≡ 2 * size (level a b j)
   length-both j h =
-      let c = counts a b twelve j h in
+      let c = level-counts a b twelve j h in
       let c0 = c .0 in
       let c1 = c .1 in
       let l = length-twice (blocks.plus (level a b j)) in
@@ -73,13 +73,13 @@ module _ (a b : ℕ) (few : a + 2 * b ≤ widest) where
 -- ---- the blocks of one level, each number twice
 module _ (ms : List Modulus) where
   pub plus-twice : twice (blocks.plus (next ms))
-      ≡ moved (size ms * 0) (twice (blocks.plus ms)) ++ (moved (size ms * 1) (twice (blocks.low ms)) ++ (moved (size ms * 2) (twice (blocks.plus ms)) ++ moved (size ms * 3) (twice (blocks.plus ms))))
+      ≡ shifted (size ms * 0) (twice (blocks.plus ms)) ++ (shifted (size ms * 1) (twice (blocks.low ms)) ++ (shifted (size ms * 2) (twice (blocks.plus ms)) ++ shifted (size ms * 3) (twice (blocks.plus ms))))
   plus-twice =
       ap twice (plus-blocks ms)
       ∙ twice-four (size ms * 0) (size ms * 1) (size ms * 2) (size ms * 3) (blocks.plus ms) (blocks.low ms) (blocks.plus ms) (blocks.plus ms)
 
   pub low-twice : twice (blocks.low (next ms))
-      ≡ moved (size ms * 0) (twice (blocks.low ms)) ++ (moved (size ms * 1) (twice (blocks.low ms)) ++ (moved (size ms * 2) (twice (blocks.low ms)) ++ moved (size ms * 3) (twice (blocks.plus ms))))
+      ≡ shifted (size ms * 0) (twice (blocks.low ms)) ++ (shifted (size ms * 1) (twice (blocks.low ms)) ++ (shifted (size ms * 2) (twice (blocks.low ms)) ++ shifted (size ms * 3) (twice (blocks.plus ms))))
   low-twice =
       ap twice (low-blocks ms)
       ∙ twice-four (size ms * 0) (size ms * 1) (size ms * 2) (size ms * 3) (blocks.low ms) (blocks.low ms) (blocks.low ms) (blocks.plus ms)
@@ -248,13 +248,13 @@ low-doubles a b h =
     }
   where
     grow : (i : ℕ) → i < a → twice (blocks.low (take (suc i) (moduli a b)))
-        ≡ moved (size (take i (moduli a b)) * 0) (twice (blocks.low (take i (moduli a b)))) ++ moved (size (take i (moduli a b)) * stride a i) (twice (blocks.low (take i (moduli a b))))
+        ≡ shifted (size (take i (moduli a b)) * 0) (twice (blocks.low (take i (moduli a b)))) ++ shifted (size (take i (moduli a b)) * stride a i) (twice (blocks.low (take i (moduli a b))))
     grow i k =
         let ms = take i (moduli a b) in
         ap (λ (y : List Modulus). twice (blocks.low y)) (last-two a b i h (omega arith) k)
         ∙ ap twice (low-two ms)
         ∙ twice-two (size ms * 0) (size ms * 1) (blocks.low ms) (blocks.low ms)
-        ∙ ap (λ (y : ℕ). moved (size ms * 0) (twice (blocks.low ms)) ++ moved (size ms * y) (twice (blocks.low ms))) (sym (stride-two a i k))
+        ∙ ap (λ (y : ℕ). shifted (size ms * 0) (twice (blocks.low ms)) ++ shifted (size ms * y) (twice (blocks.low ms))) (sym (stride-two a i k))
 
 pub levelling-asks : (a b top : ℕ) (v₀ x v r : List ℕ) (n e j : ℕ) → Levelling a b top v₀ x v r n e j → j ≤ 0
     → (a + b ≤ 12) × (a ≤ a + b) × (0 + 2 * n ≤ length v) × (length v ≤ room)

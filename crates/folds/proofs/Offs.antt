@@ -6,11 +6,11 @@ use native.Mathlib.Omega.{arith}
 use lib.ListN.{length, take, drop, length-drop, length-append}
 use lib.Seq.{take-add, length-take-le, drop-drop}
 use Rattle.group.specs.Group.{Modulus, four, radix, sum, size}
-use Rattle.group.specs.Weights.{weighOn, moved, added, total}
+use Rattle.group.specs.Weights.{weighOn, shifted, added, total, Below}
 use Rattle.group.proofs.Laws.{sum-comm, sum-assoc, sum-four}
 use Rattle.group.proofs.Fill.{length-sum, sum-mod}
 use Rattle.group.proofs.Snoc.{sum-snoc}
-use Rattle.group.proofs.Weights.{Below, length-on, on-append, on-added, on-moved, length-moved, length-added, rest, total-added}
+use Rattle.group.proofs.Weights.{length-on, on-append, on-added, on-shifted, length-shifted, length-added, rest, total-added}
 use Rattle.layout.proofs.Blocks.{next}
 use Rattle.folds.specs.Folds.{stretch, double, triple, plusAt, lowAt, firstPlus, firstTops, nextPlus, plusTops, nextLow, lowTops}
 
@@ -22,11 +22,11 @@ module _ (ms : List Modulus) (m : Modulus) (h : ℕ) (x : List ℕ) (b : Below (
   abbrev w1 : List ℕ
   w1 = weighOn ms x v1
 
-  pub two-off : weighOn (ms ++ m ∷ []) (moved (size ms * 0) x ++ moved (size ms * h) x) (v0 ++ v1)
+  pub two-off : weighOn (ms ++ m ∷ []) (shifted (size ms * 0) x ++ shifted (size ms * h) x) (v0 ++ v1)
       ≡ weighOn ms x (added v0 v1) ++ ((total v0 * (0 % radix m) % radix m + total v1 * (h % radix m) % radix m) % radix m ∷ [])
   two-off =
-      on-append (ms ++ m ∷ []) (moved (size ms * 0) x) (moved (size ms * h) x) v0 v1 (l0 ∙ sym (length-moved (size ms * 0) x))
-      ∙ ap₂ (sum (ms ++ m ∷ [])) (on-moved ms m 0 x v0 b l0) (on-moved ms m h x v1 b l1)
+      on-append (ms ++ m ∷ []) (shifted (size ms * 0) x) (shifted (size ms * h) x) v0 v1 (l0 ∙ sym (length-shifted (size ms * 0) x))
+      ∙ ap₂ (sum (ms ++ m ∷ [])) (on-shifted ms m 0 x v0 b l0) (on-shifted ms m h x v1 b l1)
       ∙ sum-snoc ms m w0 w1 (total v0 * (0 % radix m) % radix m) (total v1 * (h % radix m) % radix m) (length-on ms x v0) (length-on ms x v1)
       ∙ ap (λ (r : List ℕ). r ++ ((total v0 * (0 % radix m) % radix m + total v1 * (h % radix m) % radix m) % radix m ∷ [])) (sym (on-added ms x v0 v1 (l0 ∙ sym l1)))
 
@@ -44,7 +44,7 @@ last p q r s =
 module _ (ms : List Modulus) (x0 x1 x2 x3 : List ℕ) (b0 : Below (size ms) x0) (b1 : Below (size ms) x1) (b2 : Below (size ms) x2) (b3 : Below (size ms) x3)
     (v0 v1 v2 v3 : List ℕ) (l0 : length v0 ≡ length x0) (l1 : length v1 ≡ length x1) (l2 : length v2 ≡ length x2) (l3 : length v3 ≡ length x3) where
   pub four-off :
-      weighOn (next ms) (moved (size ms * 0) x0 ++ (moved (size ms * 1) x1 ++ (moved (size ms * 2) x2 ++ moved (size ms * 3) x3))) (v0 ++ (v1 ++ (v2 ++ v3)))
+      weighOn (next ms) (shifted (size ms * 0) x0 ++ (shifted (size ms * 1) x1 ++ (shifted (size ms * 2) x2 ++ shifted (size ms * 3) x3))) (v0 ++ (v1 ++ (v2 ++ v3)))
       ≡ sum ms (weighOn ms x0 v0) (sum ms (weighOn ms x1 v1) (sum ms (weighOn ms x2 v2) (weighOn ms x3 v3)))
       ++ ((total v1 + 2 * total v2 + 3 * total v3) % 4 ∷ [])
   four-off =
@@ -56,26 +56,26 @@ module _ (ms : List Modulus) (x0 x1 x2 x3 : List ℕ) (b0 : Below (size ms) x0) 
       let p1 = total v1 * 1 % 4 in
       let p2 = total v2 * 2 % 4 in
       let p3 = total v3 * 3 % 4 in
-      let e0 : weighOn (next ms) (moved (size ms * 0) x0) v0 ≡ w0 ++ (p0 ∷ []) = on-moved ms four 0 x0 v0 b0 l0 in
-      let e1 : weighOn (next ms) (moved (size ms * 1) x1) v1 ≡ w1 ++ (p1 ∷ []) = on-moved ms four 1 x1 v1 b1 l1 in
-      let e2 : weighOn (next ms) (moved (size ms * 2) x2) v2 ≡ w2 ++ (p2 ∷ []) = on-moved ms four 2 x2 v2 b2 l2 in
-      let e3 : weighOn (next ms) (moved (size ms * 3) x3) v3 ≡ w3 ++ (p3 ∷ []) = on-moved ms four 3 x3 v3 b3 l3 in
-      let s2 : weighOn (next ms) (moved (size ms * 2) x2 ++ moved (size ms * 3) x3) (v2 ++ v3) ≡ sum ms w2 w3 ++ ((p2 + p3) % 4 ∷ []) =
-      on-append (next ms) (moved (size ms * 2) x2) (moved (size ms * 3) x3) v2 v3 (l2 ∙ sym (length-moved (size ms * 2) x2))
+      let e0 : weighOn (next ms) (shifted (size ms * 0) x0) v0 ≡ w0 ++ (p0 ∷ []) = on-shifted ms four 0 x0 v0 b0 l0 in
+      let e1 : weighOn (next ms) (shifted (size ms * 1) x1) v1 ≡ w1 ++ (p1 ∷ []) = on-shifted ms four 1 x1 v1 b1 l1 in
+      let e2 : weighOn (next ms) (shifted (size ms * 2) x2) v2 ≡ w2 ++ (p2 ∷ []) = on-shifted ms four 2 x2 v2 b2 l2 in
+      let e3 : weighOn (next ms) (shifted (size ms * 3) x3) v3 ≡ w3 ++ (p3 ∷ []) = on-shifted ms four 3 x3 v3 b3 l3 in
+      let s2 : weighOn (next ms) (shifted (size ms * 2) x2 ++ shifted (size ms * 3) x3) (v2 ++ v3) ≡ sum ms w2 w3 ++ ((p2 + p3) % 4 ∷ []) =
+      on-append (next ms) (shifted (size ms * 2) x2) (shifted (size ms * 3) x3) v2 v3 (l2 ∙ sym (length-shifted (size ms * 2) x2))
       ∙ ap₂ (sum (next ms)) e2 e3 ∙ sum-snoc ms four w2 w3 p2 p3 (length-on ms x2 v2) (length-on ms x3 v3) in
-      let s1 : weighOn (next ms) (moved (size ms * 1) x1 ++ (moved (size ms * 2) x2 ++ moved (size ms * 3) x3)) (v1 ++ (v2 ++ v3))
+      let s1 : weighOn (next ms) (shifted (size ms * 1) x1 ++ (shifted (size ms * 2) x2 ++ shifted (size ms * 3) x3)) (v1 ++ (v2 ++ v3))
       ≡ sum ms w1 (sum ms w2 w3) ++ ((p1 + (p2 + p3) % 4) % 4 ∷ []) =
-      on-append (next ms) (moved (size ms * 1) x1) (moved (size ms * 2) x2 ++ moved (size ms * 3) x3) v1 (v2 ++ v3) (l1 ∙ sym (length-moved (size ms * 1) x1))
+      on-append (next ms) (shifted (size ms * 1) x1) (shifted (size ms * 2) x2 ++ shifted (size ms * 3) x3) v1 (v2 ++ v3) (l1 ∙ sym (length-shifted (size ms * 1) x1))
       ∙ ap₂ (sum (next ms)) e1 s2 ∙ sum-snoc ms four w1 (sum ms w2 w3) p1 ((p2 + p3) % 4) (length-on ms x1 v1) (length-sum ms w2 w3) in
-      on-append (next ms) (moved (size ms * 0) x0) (moved (size ms * 1) x1 ++ (moved (size ms * 2) x2 ++ moved (size ms * 3) x3)) v0 (v1 ++ (v2 ++ v3))
-      (l0 ∙ sym (length-moved (size ms * 0) x0))
+      on-append (next ms) (shifted (size ms * 0) x0) (shifted (size ms * 1) x1 ++ (shifted (size ms * 2) x2 ++ shifted (size ms * 3) x3)) v0 (v1 ++ (v2 ++ v3))
+      (l0 ∙ sym (length-shifted (size ms * 0) x0))
       ∙ ap₂ (sum (next ms)) e0 s1
       ∙ sum-snoc ms four w0 (sum ms w1 (sum ms w2 w3)) p0 ((p1 + (p2 + p3) % 4) % 4) (length-on ms x0 v0) (length-sum ms w1 (sum ms w2 w3))
       ∙ ap (λ (k : ℕ). sum ms w0 (sum ms w1 (sum ms w2 w3)) ++ (k ∷ [])) (last (total v0) (total v1) (total v2) (total v3))
 
 pub four-lengths : (n : ℕ) (x0 x1 x2 x3 : List ℕ)
-    → length (moved (n * 0) x0 ++ (moved (n * 1) x1 ++ (moved (n * 2) x2 ++ moved (n * 3) x3))) ≡ length x0 + (length x1 + (length x2 + length x3))
-four-lengths n x0 x1 x2 x3 = rw (length-append, length-append, length-append, length-moved, length-moved, length-moved, length-moved) refl
+    → length (shifted (n * 0) x0 ++ (shifted (n * 1) x1 ++ (shifted (n * 2) x2 ++ shifted (n * 3) x3))) ≡ length x0 + (length x1 + (length x2 + length x3))
+four-lengths n x0 x1 x2 x3 = rw (length-append, length-append, length-append, length-shifted, length-shifted, length-shifted, length-shifted) refl
 
 -- ---- stretches of weights
 pub length-stretch : (k n : ℕ) (v : List ℕ) → k + n ≤ length v → length (stretch k n v) ≡ n
@@ -146,8 +146,8 @@ module _ (ms : List Modulus) (a0 a1 a2 a3 b0 b1 b2 b3 : List ℕ) where
 -- ---- one level. X and Y stand for the numbers of sign 1 and for those whose sign is not 3, and X′ and Y′ for them with one quaternary
 -- component more; whether each stands there once or twice does not matter
 module _ (ms : List Modulus) (X Y X′ Y′ : List ℕ) (p m : ℕ) (hp : length X ≡ p) (hm : length Y ≡ m) (bx : Below (size ms) X) (by : Below (size ms) Y)
-    (ex : X′ ≡ moved (size ms * 0) X ++ (moved (size ms * 1) Y ++ (moved (size ms * 2) X ++ moved (size ms * 3) X)))
-    (ey : Y′ ≡ moved (size ms * 0) Y ++ (moved (size ms * 1) Y ++ (moved (size ms * 2) Y ++ moved (size ms * 3) X)))
+    (ex : X′ ≡ shifted (size ms * 0) X ++ (shifted (size ms * 1) Y ++ (shifted (size ms * 2) X ++ shifted (size ms * 3) X)))
+    (ey : Y′ ≡ shifted (size ms * 0) Y ++ (shifted (size ms * 1) Y ++ (shifted (size ms * 2) Y ++ shifted (size ms * 3) X)))
     (v : List ℕ) where
   abbrev wx : List ℕ → List ℕ
   wx = weighOn ms X

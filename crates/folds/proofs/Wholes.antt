@@ -9,18 +9,18 @@ use borrow.Author.Tests.{le-leb, lt-leb}
 use lib.ListN.{length, take, drop, set, length-append, take-append-drop}
 use lib.Seq.{paste, take-add, append-snoc, length-take-le}
 use Rattle.group.specs.Group.{Modulus, four, moduli, zeros, sum, size}
-use Rattle.group.specs.Weights.{weighOn, moved, total}
+use Rattle.group.specs.Weights.{weighOn, shifted, total, Below}
 use Rattle.group.proofs.Laws.{sum-comm}
 use Rattle.group.proofs.Fill.{length-moduli, length-zeros, sum-mod}
 use Rattle.group.proofs.Unit.{size-in-use}
-use Rattle.group.proofs.Weights.{Below, on-append, on-behind}
+use Rattle.group.proofs.Weights.{on-append, on-behind}
 use Rattle.layout.specs.Blocks as blocks
 use Rattle.layout.specs.Blocks.{level, evenTo}
 use Rattle.layout.proofs.Blocks.{next, even-blocks}
 use Rattle.layout.proofs.Levels.{below-plus, below-low, below-even, level-next, size-next}
 use Rattle.layout.proofs.Members.{plus-all, even-all}
 use Rattle.layout.proofs.Splits.{even-power}
-use Rattle.folds.specs.Folds.{widest, room, stretch, twice, both, order, weightedFor, firstPlus, firstTops, stride, Doubling, Halved}
+use Rattle.folds.specs.Folds.{widest, room, stretch, twice, both, weightOrder, weightedFor, firstPlus, firstTops, stride, Doubling, Halved}
 use Rattle.folds.proofs.Twice.{below-twice, even-two}
 use Rattle.folds.proofs.Offs.{four-lengths, first-off, length-first-plus}
 use Rattle.folds.proofs.Halving.{last-two, last-four, stride-two, stride-four}
@@ -118,15 +118,15 @@ evens-double : (a b : ℕ) → a + b ≤ 12 → Doubling a b (a + b) (λ i. bloc
 evens-double a b h = record { below = λ i k. below-even (take i (moduli a b)); grows = λ i k. grow i k (decLt i a) }
   where
     grow : (i : ℕ) → i < a + b → Dec (i < a) → blocks.even (take (suc i) (moduli a b))
-        ≡ moved (size (take i (moduli a b)) * 0) (blocks.even (take i (moduli a b))) ++ moved (size (take i (moduli a b)) * stride a i) (blocks.even (take i (moduli a b)))
+        ≡ shifted (size (take i (moduli a b)) * 0) (blocks.even (take i (moduli a b))) ++ shifted (size (take i (moduli a b)) * stride a i) (blocks.even (take i (moduli a b)))
     grow i k (yes t) =
         let ms = take i (moduli a b) in
         ap blocks.even (last-two a b i h k t) ∙ even-two ms
-        ∙ ap (λ (y : ℕ). moved (size ms * 0) (blocks.even ms) ++ moved (size ms * y) (blocks.even ms)) (sym (stride-two a i t))
+        ∙ ap (λ (y : ℕ). shifted (size ms * 0) (blocks.even ms) ++ shifted (size ms * y) (blocks.even ms)) (sym (stride-two a i t))
     grow i k (no t) =
         let ms = take i (moduli a b) in
         ap blocks.even (last-four a b i h k (omega arith)) ∙ even-blocks ms
-        ∙ ap (λ (y : ℕ). moved (size ms * 0) (blocks.even ms) ++ moved (size ms * y) (blocks.even ms)) (sym (stride-four a i (omega arith)))
+        ∙ ap (λ (y : ℕ). shifted (size ms * 0) (blocks.even ms) ++ shifted (size ms * y) (blocks.even ms)) (sym (stride-four a i (omega arith)))
 
 -- how many numbers there are of each sign
 pub record Shares (a b n e : ℕ) : Type 0 where
@@ -159,8 +159,8 @@ module _ (a b n e : ℕ) (f : Shares a b n e) (v : List ℕ) (l : length v ≡ r
       ∙ unused a b (blocks.even (level a b b)) (drop (n - e) v) (below-even (level a b b))
       ∙ ap (λ (t : List ℕ). weighOn ms t (drop (n - e) v)) (even-all a b)
 
-  order-sum : weighOn ms (order ms) v ≡ sum ms (weighOn ms X v) (weighOn ms (blocks.even ms) (drop (n - e) v))
-  unfolding order
+  order-sum : weighOn ms (weightOrder ms) v ≡ sum ms (weighOn ms X v) (weighOn ms (blocks.even ms) (drop (n - e) v))
+  unfolding weightOrder
   order-sum =
       let p = f .pairs in
       let fe = f .fewer in
@@ -171,7 +171,7 @@ module _ (a b n e : ℕ) (f : Shares a b n e) (v : List ℕ) (l : length v ≡ r
       ∙ ap (λ (t : List ℕ). sum ms t (weighOn ms (blocks.even ms) (drop (n - e) v))) (on-take ms X v (n - e) (omega arith))
 
   pub both-sum : (w x y z none : List ℕ) → none ≡ zeros ms → Halved a b (a + b) (n - e) e v none x → take (n - e) w ≡ take (n - e) v
-      → y ≡ weighOn ms X w → z ≡ sum ms x y → z ≡ weighOn ms (order ms) v
+      → y ≡ weighOn ms X w → z ≡ sum ms x y → z ≡ weighOn ms (weightOrder ms) v
   both-sum w x y z none o g t h k =
       let p = f .pairs in
       let q : y ≡ weighOn ms X v = h ∙ sym (on-take ms X w (n - e) (omega arith)) ∙ ap (weighOn ms X) t ∙ on-take ms X v (n - e) (omega arith) in
@@ -179,8 +179,8 @@ module _ (a b n e : ℕ) (f : Shares a b n e) (v : List ℕ) (l : length v ≡ r
 
 -- without quaternary components there are none of sign 1
 pub singles-only : (a b n e : ℕ) → Shares a b n e → b ≡ 0 → n ≡ 2 ^ (a + 2 * b) → e ≡ 2 ^ (a + b) → (v x none : List ℕ) → length v ≡ room
-    → none ≡ zeros (moduli a b) → Halved a b (a + b) (n - e) e v none x → x ≡ weighOn (moduli a b) (order (moduli a b)) v
-unfolding order twice
+    → none ≡ zeros (moduli a b) → Halved a b (a + b) (n - e) e v none x → x ≡ weighOn (moduli a b) (weightOrder (moduli a b)) v
+unfolding weightOrder twice
 singles-only a b n e f z p q v x none l o g =
     let ms = moduli a b in
     let h = f .pairs in
@@ -196,19 +196,19 @@ singles-only a b n e f z p q v x none l o g =
     nothing (y ∷ t) h = absurd (omega arith)
 
 -- ---- what `weighted` answers
-pub with-room : (a b : ℕ) (v : List ℕ) → a + 2 * b ≤ widest → weightedFor a b v ≡ weighOn (moduli a b) (order (moduli a b)) v
+pub with-room : (a b : ℕ) (v : List ℕ) → a + 2 * b ≤ widest → weightedFor a b v ≡ weighOn (moduli a b) (weightOrder (moduli a b)) v
 unfolding weightedFor
 with-room a b v h =
-    ap (λ t. elim t as (λ _. List ℕ) [ true ↦ weighOn (moduli a b) (order (moduli a b)) v | false ↦ zeros (moduli a b) ]) (le-leb (a + 2 * b) widest h)
+    ap (λ t. elim t as (λ _. List ℕ) [ true ↦ weighOn (moduli a b) (weightOrder (moduli a b)) v | false ↦ zeros (moduli a b) ]) (le-leb (a + 2 * b) widest h)
 
 pub without-room : (a b : ℕ) (v : List ℕ) → widest < a + 2 * b → weightedFor a b v ≡ zeros (moduli a b)
 unfolding weightedFor
 without-room a b v h =
-    ap (λ t. elim t as (λ _. List ℕ) [ true ↦ weighOn (moduli a b) (order (moduli a b)) v | false ↦ zeros (moduli a b) ]) (lt-leb (a + 2 * b) widest h)
+    ap (λ t. elim t as (λ _. List ℕ) [ true ↦ weighOn (moduli a b) (weightOrder (moduli a b)) v | false ↦ zeros (moduli a b) ]) (lt-leb (a + 2 * b) widest h)
 
 -- there is a weight for each element
-pub order-fits : (a b : ℕ) → a + 2 * b ≤ widest → length (order (moduli a b)) ≤ size (moduli a b)
-unfolding order
+pub order-fits : (a b : ℕ) → a + 2 * b ≤ widest → length (weightOrder (moduli a b)) ≤ size (moduli a b)
+unfolding weightOrder
 order-fits a b few =
     let ms = moduli a b in
     let S = shares a b (2 ^ (a + 2 * b)) (2 ^ (a + b)) few refl refl in

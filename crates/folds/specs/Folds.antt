@@ -6,8 +6,7 @@ use Prim.Native.Nat.{ℕ, zero, suc, _+_, _*_, _≤_, _<_}
 use lib.Dec.{leb, ltb}
 use lib.ListN.{length, take, drop}
 use Rattle.group.specs.Group.{Modulus, moduli, zeros, size}
-use Rattle.group.specs.Weights.{weighOn, moved, added}
-use Rattle.group.proofs.Weights.{Below}
+use Rattle.group.specs.Weights.{weighOn, shifted, added, Below}
 use Rattle.layout.specs.Blocks.{plus, low, even, level}
 
 -- the largest t that there is room for, and the room: 2^t weights
@@ -23,14 +22,14 @@ twice [] = []
 twice (x ∷ xs) = x ∷ x ∷ twice xs
 
 -- the numbers of sign 1, by rising number, each for the two places of its pair; then those of sign 0, by rising number
-unfoldable pub order : List Modulus → List ℕ
-order ms = twice (plus ms) ++ even ms
+unfoldable pub weightOrder : List Modulus → List ℕ
+weightOrder ms = twice (plus ms) ++ even ms
 
 -- what `weighted` answers: the sum of the elements in this order, each times its weight; zero where there is no room for so many
 unfoldable pub weightedFor : ℕ → ℕ → List ℕ → List ℕ
 weightedFor a b v =
     elim (leb (a + 2 * b) widest) as (λ _. List ℕ) [
-      | true ↦ weighOn (moduli a b) (order (moduli a b)) v
+      | true ↦ weighOn (moduli a b) (weightOrder (moduli a b)) v
       | false ↦ zeros (moduli a b)
     ]
 
@@ -92,7 +91,7 @@ stride a i = elim (ltb i a) as (λ _. ℕ) [ true ↦ 1 | false ↦ 2 ]
 
 pub record Doubling (a b top : ℕ) (L : ℕ → List ℕ) : Type 0 where
   pub below : (i : ℕ) → i ≤ top → Below (size (take i (moduli a b))) (L i)
-  pub grows : (i : ℕ) → i < top → L (suc i) ≡ moved (size (take i (moduli a b)) * 0) (L i) ++ moved (size (take i (moduli a b)) * stride a i) (L i)
+  pub grows : (i : ℕ) → i < top → L (suc i) ≡ shifted (size (take i (moduli a b)) * 0) (L i) ++ shifted (size (take i (moduli a b)) * stride a i) (L i)
 
 -- r is the sum over such a list of n numbers, with the n weights from `start` on, in the first `top` components, and x in the others
 abbrev pub Halved : ℕ → ℕ → ℕ → ℕ → ℕ → List ℕ → List ℕ → List ℕ → Type 0

@@ -13,7 +13,7 @@ ghost use Rattle.group.specs.Weights as weights;
 ghost use Rattle.layout.specs.Blocks.{plus, level, evenTo};
 ghost use Rattle.folds.specs.Folds as folds;
 ghost use Rattle.folds.specs.Folds.{stretch, firstPlus, firstTops, nextPlus, plusTops, nextLow, lowTops, stride, Halved};
-ghost use Rattle.folds.specs.Folds.{room, widest, twice, order, weightedFor};
+ghost use Rattle.folds.specs.Folds.{room, widest, twice, weightOrder, weightedFor};
 use group::Element;
 use std::num;
 
@@ -40,7 +40,7 @@ pub fn weighted(a: usize, b: usize, mut v: Weights) -> Element
 // The sum over the numbers of sign 0 and over those of sign 1.
 fn both(a: usize, b: usize, v: &mut [u8]) -> Element
     requires { ⌜ (a + 2 * b ≤ widest) × (length (now v) ≡ room) ⌝ }
-    ensures { λ r. ⌜ r ≡ weights.weighOn (moduli a b) (order (moduli a b)) (now (v .entry)) ⌝ }
+    ensures { λ r. ⌜ r ≡ weights.weighOn (moduli a b) (weightOrder (moduli a b)) (now (v .entry)) ⌝ }
 {
     let n = power(a + 2 * b);
     let e = power(a + b);

@@ -209,7 +209,7 @@ number-small (m ∷ ms) x =
     digit two x n s l = omega arith
     digit four x n s l = omega arith
 
-pub number-drop-lt : (a b j : ℕ) (x : List ℕ) → number (drop j (moduli a b)) x < 2 ^ 24
+number-drop-lt : (a b j : ℕ) (x : List ℕ) → number (drop j (moduli a b)) x < 2 ^ 24
 number-drop-lt a b j x =
     let l : length (drop j (moduli a b)) ≤ 12 = rw (length-drop, length-moduli) (omega arith) in
     omega (arith, number-small (drop j (moduli a b)) x, pow-le-pow-right {n = 4} (omega arith) l)

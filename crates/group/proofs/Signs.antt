@@ -136,15 +136,6 @@ own-even ms e h p = go (lead-cases ms e) (ap (lead ms) (sym p) ∙ lead-negative
     go plus q = absurd (omega arith)
     go minus q = absurd (omega arith)
 
--- an element whose sign is neither 0 nor 1 is −z
-pub lead-minus : (ms : List Modulus) (e : List ℕ) → Valid ms e → lead ms e ≢ 0 → lead ms e ≢ 1 → lead ms (negative ms e) ≡ 1
-lead-minus ms e h a b = lead-negative ms e h ∙ go (lead-cases ms e) a b
-  where
-    go : {l : ℕ} → Lead l → l ≢ 0 → l ≢ 1 → (4 - l) % 4 ≡ 1
-    go even p q = absurd (p refl)
-    go plus p q = absurd (q refl)
-    go minus p q = refl
-
 -- where it is not 0 it is the first odd one: it stands at a quaternary component, and the quaternary components before it are even
 abbrev pub FirstOdd : List Modulus → List ℕ → ℕ → Type 0
 FirstOdd ms e i =

@@ -2,12 +2,12 @@
 -- component, they are sums of the same kind with fewer components, and that component. Assumes nothing.
 use mathlib.Core.Path.{_≡_, refl, sym, ap, ap₂, _∙_}
 use mathlib.Core.List.{List, [], _∷_, _++_}
-use Prim.Native.Nat.{ℕ, suc, _+_, _*_, _%_, _<_}
+use Prim.Native.Nat.{ℕ, suc, _+_, _*_, _%_}
 use native.Mathlib.Nat.{add-mul}
 use native.Mathlib.Omega.{arith}
 use lib.ListN.{length}
 use Rattle.group.specs.Group.{Modulus, one, two, four, radix, tl, Valid, zeros, sum, times, element, size}
-use Rattle.group.specs.Weights.{weighOn, moved, added, total}
+use Rattle.group.specs.Weights.{weighOn, shifted, Below, added, total}
 use Rattle.group.proofs.Laws.{valid-zeros, valid-sum, sum-assoc, sum-four, zero-sum, times-add, times-mod4}
 use Rattle.group.proofs.Fill.{sum-mod, times-mod, length-zeros, length-sum, length-times, length-element}
 use Rattle.group.proofs.Snoc.{zeros-snoc, sum-snoc, times-snoc, element-snoc, zeros-behind, element-behind, times-behind, sum-behind}
@@ -75,11 +75,6 @@ total-added (p ∷ u) (q ∷ v) h =
     again : (z : ℕ) → z % 4 % 4 % 4 ≡ z % 4
     again z = omega arith
 
--- ---- numbers below a bound
-abbrev pub Below : ℕ → List ℕ → Type 0
-Below n [] = Unit {0}
-Below n (x ∷ xs) = (x < n) × Below n xs
-
 -- ---- numbers with the digit h in one more component
 share : (m : Modulus) (d t e : ℕ) → (d * e % radix m + t * e % radix m) % radix m ≡ (d % 4 + t) * e % radix m
 share m d t e =
@@ -95,32 +90,32 @@ share m d t e =
     twice two x y = omega arith
     twice four x y = omega arith
 
-pub on-moved :
+pub on-shifted :
     (ms : List Modulus) (m : Modulus) (h : ℕ) (xs v : List ℕ) → Below (size ms) xs → length v ≡ length xs
-    → weighOn (ms ++ m ∷ []) (moved (size ms * h) xs) v ≡ weighOn ms xs v ++ (total v * (h % radix m) % radix m ∷ [])
-unfolding weighOn total moved
-on-moved ms m h [] [] b l = zeros-snoc ms m ∙ ap (λ (k : ℕ). zeros ms ++ (k ∷ [])) (nothing m (h % radix m))
+    → weighOn (ms ++ m ∷ []) (shifted (size ms * h) xs) v ≡ weighOn ms xs v ++ (total v * (h % radix m) % radix m ∷ [])
+unfolding weighOn total shifted
+on-shifted ms m h [] [] b l = zeros-snoc ms m ∙ ap (λ (k : ℕ). zeros ms ++ (k ∷ [])) (nothing m (h % radix m))
   where
     nothing : (m : Modulus) (e : ℕ) → 0 ≡ 0 * e % radix m
     nothing one e = omega arith
     nothing two e = omega arith
     nothing four e = omega arith
-on-moved ms m h [] (d ∷ v) b l = absurd (omega arith)
-on-moved ms m h (x ∷ xs) [] b l = absurd (omega arith)
-on-moved ms m h (x ∷ xs) (d ∷ v) b l =
+on-shifted ms m h [] (d ∷ v) b l = absurd (omega arith)
+on-shifted ms m h (x ∷ xs) [] b l = absurd (omega arith)
+on-shifted ms m h (x ∷ xs) (d ∷ v) b l =
     let e = h % radix m in
-    let i : weighOn (ms ++ m ∷ []) (moved (size ms * h) xs) v ≡ weighOn ms xs v ++ (total v * e % radix m ∷ []) =
-    on-moved ms m h xs v (b .1) (omega arith) in
+    let i : weighOn (ms ++ m ∷ []) (shifted (size ms * h) xs) v ≡ weighOn ms xs v ++ (total v * e % radix m ∷ []) =
+    on-shifted ms m h xs v (b .1) (omega arith) in
     rw (i, element-snoc ms m h x (b .0), times-snoc ms m d (element ms x) e (length-element ms x))
     (sum-snoc ms m (times ms d (element ms x)) (weighOn ms xs v) (d * e % radix m) (total v * e % radix m)
     (length-times ms d (element ms x))
     (length-on ms xs v)
     ∙ ap (λ (k : ℕ). sum ms (times ms d (element ms x)) (weighOn ms xs v) ++ (k ∷ [])) (share m d (total v) e))
 
-pub length-moved : (c : ℕ) (xs : List ℕ) → length (moved c xs) ≡ length xs
-unfolding moved
-length-moved c [] = refl
-length-moved c (x ∷ xs) = ap suc (length-moved c xs)
+pub length-shifted : (c : ℕ) (xs : List ℕ) → length (shifted c xs) ≡ length xs
+unfolding shifted
+length-shifted c [] = refl
+length-shifted c (x ∷ xs) = ap suc (length-shifted c xs)
 
 -- ---- components behind, that no number of the list reaches
 pub on-behind : (ms ns : List Modulus) (xs v : List ℕ) → Below (size ms) xs → weighOn (ms ++ ns) xs v ≡ weighOn ms xs v ++ zeros ns

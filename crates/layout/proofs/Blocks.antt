@@ -11,7 +11,7 @@ use Rattle.group.specs.Sign.{lead, oddOr}
 use Rattle.group.proofs.Fill.{length-element}
 use Rattle.group.proofs.Signs.{Lead, even, plus, minus, lead-cases}
 use Rattle.group.proofs.Snoc.{element-snoc, size-snoc}
-use Rattle.group.specs.Weights.{moved}
+use Rattle.group.specs.Weights.{shifted}
 use Rattle.layout.specs.Layout.{from}
 use Rattle.layout.proofs.Lists.{from-append}
 use Rattle.layout.specs.Blocks as blocks
@@ -35,23 +35,23 @@ select-append p (x ∷ xs) ys = go (select-append p xs ys) (p x) refl
     go i true e = rw (select-yes p x (xs ++ ys) e, select-yes p x xs e, i)
     go i false e = rw (select-no p x (xs ++ ys) e, select-no p x xs e, i)
 
--- a run of numbers moved on by c, where the test there is another one here
-pub select-run : (p q : ℕ → Bool) (c x k : ℕ) → ((y : ℕ) → y < x + k → p (y + c) ≡ q y) → select p (from (x + c) k) ≡ moved c (select q (from x k))
-unfolding from select moved
+-- a run of numbers shifted by c, where the test there is another one here
+pub select-run : (p q : ℕ → Bool) (c x k : ℕ) → ((y : ℕ) → y < x + k → p (y + c) ≡ q y) → select p (from (x + c) k) ≡ shifted c (select q (from x k))
+unfolding from select shifted
 select-run p q c x zero h = refl
 select-run p q c x (suc k) h =
     let e : suc (x + c) ≡ suc x + c = omega arith in
-    let i : select p (from (suc (x + c)) k) ≡ moved c (select q (from (suc x) k)) =
+    let i : select p (from (suc (x + c)) k) ≡ shifted c (select q (from (suc x) k)) =
     rw e (select-run p q c (suc x) k (λ y l. h y (omega arith))) in
     go i (q x) refl
   where
-    go : select p (from (suc (x + c)) k) ≡ moved c (select q (from (suc x) k)) → (b : Bool) → q x ≡ b
-        → select p ((x + c) ∷ from (suc (x + c)) k) ≡ moved c (select q (x ∷ from (suc x) k))
+    go : select p (from (suc (x + c)) k) ≡ shifted c (select q (from (suc x) k)) → (b : Bool) → q x ≡ b
+        → select p ((x + c) ∷ from (suc (x + c)) k) ≡ shifted c (select q (x ∷ from (suc x) k))
     go i true e =
         select-yes p (x + c) (from (suc (x + c)) k) (h x (omega arith) ∙ e)
-        ∙ ap {B = List ℕ} (λ (r : List ℕ). (x + c) ∷ r) i ∙ ap (moved c) (sym (select-yes q x (from (suc x) k) e))
+        ∙ ap {B = List ℕ} (λ (r : List ℕ). (x + c) ∷ r) i ∙ ap (shifted c) (sym (select-yes q x (from (suc x) k) e))
     go i false e =
-        select-no p (x + c) (from (suc (x + c)) k) (h x (omega arith) ∙ e) ∙ i ∙ ap (moved c) (sym (select-no q x (from (suc x) k) e))
+        select-no p (x + c) (from (suc (x + c)) k) (h x (omega arith) ∙ e) ∙ i ∙ ap (shifted c) (sym (select-no q x (from (suc x) k) e))
 
 -- ---- the sign, with one more component
 abbrev pub topped : ℕ → ℕ → ℕ
@@ -162,7 +162,7 @@ four-runs p n =
 blocks-of : (p q0 q1 q2 q3 : ℕ → Bool) (n : ℕ) → ((y : ℕ) → y < n → p (y + n * 0) ≡ q0 y) → ((y : ℕ) → y < n → p (y + n * 1) ≡ q1 y)
     → ((y : ℕ) → y < n → p (y + n * 2) ≡ q2 y) → ((y : ℕ) → y < n → p (y + n * 3) ≡ q3 y)
     → select p (from 0 (n * 4))
-    ≡ moved (n * 0) (select q0 (from 0 n)) ++ (moved (n * 1) (select q1 (from 0 n)) ++ (moved (n * 2) (select q2 (from 0 n)) ++ moved (n * 3) (select q3 (from 0 n))))
+    ≡ shifted (n * 0) (select q0 (from 0 n)) ++ (shifted (n * 1) (select q1 (from 0 n)) ++ (shifted (n * 2) (select q2 (from 0 n)) ++ shifted (n * 3) (select q3 (from 0 n))))
 blocks-of p q0 q1 q2 q3 n h0 h1 h2 h3 =
     let z : 0 + n ≡ n = omega arith in
     let r0 = select-run p q0 (n * 0) 0 n (λ y l. h0 y (omega arith)) in
@@ -175,14 +175,14 @@ abbrev pub next : List Modulus → List Modulus
 next ms = ms ++ four ∷ []
 
 pub plus-blocks : (ms : List Modulus) → blocks.plus (next ms)
-    ≡ moved (size ms * 0) (blocks.plus ms) ++ (moved (size ms * 1) (blocks.low ms) ++ (moved (size ms * 2) (blocks.plus ms) ++ moved (size ms * 3) (blocks.plus ms)))
+    ≡ shifted (size ms * 0) (blocks.plus ms) ++ (shifted (size ms * 1) (blocks.low ms) ++ (shifted (size ms * 2) (blocks.plus ms) ++ shifted (size ms * 3) (blocks.plus ms)))
 unfolding blocks.plus blocks.low
 plus-blocks ms =
     ap (λ (n : ℕ). select (inPlus (next ms)) (from 0 n)) (size-snoc ms four)
     ∙ blocks-of (inPlus (next ms)) (inPlus ms) (inLow ms) (inPlus ms) (inPlus ms) (size ms) (plus-0 ms) (plus-1 ms) (plus-2 ms) (plus-3 ms)
 
 pub low-blocks : (ms : List Modulus) → blocks.low (next ms)
-    ≡ moved (size ms * 0) (blocks.low ms) ++ (moved (size ms * 1) (blocks.low ms) ++ (moved (size ms * 2) (blocks.low ms) ++ moved (size ms * 3) (blocks.plus ms)))
+    ≡ shifted (size ms * 0) (blocks.low ms) ++ (shifted (size ms * 1) (blocks.low ms) ++ (shifted (size ms * 2) (blocks.low ms) ++ shifted (size ms * 3) (blocks.plus ms)))
 unfolding blocks.plus blocks.low
 low-blocks ms =
     ap (λ (n : ℕ). select (inLow (next ms)) (from 0 n)) (size-snoc ms four)
@@ -191,10 +191,10 @@ low-blocks ms =
 abbrev never : ℕ → Bool
 never y = false
 
-pub even-blocks : (ms : List Modulus) → blocks.even (next ms) ≡ moved (size ms * 0) (blocks.even ms) ++ moved (size ms * 2) (blocks.even ms)
-unfolding blocks.even moved
+pub even-blocks : (ms : List Modulus) → blocks.even (next ms) ≡ shifted (size ms * 0) (blocks.even ms) ++ shifted (size ms * 2) (blocks.even ms)
+unfolding blocks.even shifted
 even-blocks ms =
     ap (λ (n : ℕ). select (inEven (next ms)) (from 0 n)) (size-snoc ms four)
     ∙ blocks-of (inEven (next ms)) (inEven ms) never (inEven ms) never (size ms) (even-0 ms) (even-1 ms) (even-2 ms) (even-3 ms)
     ∙ (let z : select never (from 0 (size ms)) ≡ [] = none-left never (λ y. refl) (from 0 (size ms)) in
-    rw (z) (ap (λ (r : List ℕ). moved (size ms * 0) (select (inEven ms) (from 0 (size ms))) ++ r) (append-nil (moved (size ms * 2) (select (inEven ms) (from 0 (size ms)))))))
+    rw (z) (ap (λ (r : List ℕ). shifted (size ms * 0) (select (inEven ms) (from 0 (size ms))) ++ r) (append-nil (shifted (size ms * 2) (select (inEven ms) (from 0 (size ms)))))))

@@ -11,14 +11,14 @@ use lib.ListN.{length, getD, take, drop, set, replicate, length-set, take-append
 use lib.Pow.{pow-mono}
 use lib.Seq.{drop-set-lt, drop-drop, getD-append-add, set-split, drop-at, length-take-le}
 use Rattle.group.specs.Group.{Modulus, two, four, radix, moduli, zeros, times, element, size}
-use Rattle.group.specs.Weights.{moved}
+use Rattle.group.specs.Weights.{shifted, Below}
 use Rattle.group.proofs.Laws.{valid-element, times-one, times-three}
 use Rattle.group.proofs.Numbers.{size-moduli}
 use Rattle.group.proofs.Signs.{even-own}
 use Rattle.group.proofs.Fill.{Left, left-step, moduli-two, length-element, zeros-moduli}
 use Rattle.group.proofs.Unit.{size-in-use, size-take}
 use Rattle.group.proofs.Snoc.{element-snoc, times-snoc, element-behind, times-behind}
-use Rattle.group.proofs.Weights.{Below, length-moved}
+use Rattle.group.proofs.Weights.{length-shifted}
 use Rattle.layout.specs.Layout.{from}
 use Rattle.layout.specs.Gate.{gate}
 use Rattle.layout.specs.Blocks as blocks
@@ -26,28 +26,28 @@ use Rattle.layout.specs.Blocks.{level, plusTo, evenTo}
 use Rattle.layout.specs.Parts.{pick, numbers, standing, firstWidth, lowWidth, offset, lowAfter, InBlock}
 use Rattle.layout.proofs.Lists.{length-from}
 use Rattle.layout.proofs.Blocks.{next, plus-blocks, low-blocks, even-blocks}
-use Rattle.layout.proofs.Levels.{below-plus, below-low, below-even, level-next, level-none, sign-none, plus-none, low-none, even-none, plus-next, low-next, even-next, size-next, counts}
+use Rattle.layout.proofs.Levels.{below-plus, below-low, below-even, level-next, level-none, sign-none, plus-none, low-none, even-none, plus-next, low-next, even-next, size-next, level-counts}
 use Rattle.layout.proofs.Members.{plus-all, even-all}
 use Rattle.layout.proofs.Splits.{even-power}
 
 -- ---- a list of blocks by index
-at-moved : (c : ℕ) (xs : List ℕ) (i : ℕ) → i < length xs → getD (moved c xs) i 0 ≡ getD xs i 0 + c
-unfolding moved
-at-moved c [] i h = absurd (omega arith)
-at-moved c (x ∷ xs) zero h = refl
-at-moved c (x ∷ xs) (suc i) h = at-moved c xs i (omega arith)
+at-shifted : (c : ℕ) (xs : List ℕ) (i : ℕ) → i < length xs → getD (shifted c xs) i 0 ≡ getD xs i 0 + c
+unfolding shifted
+at-shifted c [] i h = absurd (omega arith)
+at-shifted c (x ∷ xs) zero h = refl
+at-shifted c (x ∷ xs) (suc i) h = at-shifted c xs i (omega arith)
 
 -- past a first block
-past : (c : ℕ) (xs ys : List ℕ) (i : ℕ) → getD (moved c xs ++ ys) (length xs + i) 0 ≡ getD ys i 0
-past c xs ys i = ap (λ (n : ℕ). getD (moved c xs ++ ys) (n + i) 0) (sym (length-moved c xs)) ∙ getD-append-add (moved c xs) ys i 0
+past : (c : ℕ) (xs ys : List ℕ) (i : ℕ) → getD (shifted c xs ++ ys) (length xs + i) 0 ≡ getD ys i 0
+past c xs ys i = ap (λ (n : ℕ). getD (shifted c xs ++ ys) (n + i) 0) (sym (length-shifted c xs)) ∙ getD-append-add (shifted c xs) ys i 0
 
 -- in a first block
-first : (c : ℕ) (xs ys : List ℕ) (i : ℕ) → i < length xs → getD (moved c xs ++ ys) i 0 ≡ getD xs i 0 + c
-first c xs ys i h = List·getD-append (moved c xs) ys 0 i (rw length-moved h) ∙ at-moved c xs i h
+first : (c : ℕ) (xs ys : List ℕ) (i : ℕ) → i < length xs → getD (shifted c xs ++ ys) i 0 ≡ getD xs i 0 + c
+first c xs ys i h = List·getD-append (shifted c xs) ys 0 i (rw length-shifted h) ∙ at-shifted c xs i h
 
 module _ (n : ℕ) (x0 x1 x2 x3 : List ℕ) where
   abbrev all : List ℕ
-  all = moved (n * 0) x0 ++ (moved (n * 1) x1 ++ (moved (n * 2) x2 ++ moved (n * 3) x3))
+  all = shifted (n * 0) x0 ++ (shifted (n * 1) x1 ++ (shifted (n * 2) x2 ++ shifted (n * 3) x3))
 
   at-1 : (i k : ℕ) → k ≡ length x0 + i → i < length x1 → getD all k 0 ≡ getD x1 i 0 + n * 1
   at-1 i k e h = ap (λ (m : ℕ). getD all m 0) e ∙ past (n * 0) x0 _ i ∙ first (n * 1) x1 _ i h
@@ -58,7 +58,7 @@ module _ (n : ℕ) (x0 x1 x2 x3 : List ℕ) where
   at-3 : (i k : ℕ) → k ≡ length x0 + (length x1 + (length x2 + i)) → i < length x3 → getD all k 0 ≡ getD x3 i 0 + n * 3
   at-3 i k e h =
       ap (λ (m : ℕ). getD all m 0) e ∙ past (n * 0) x0 _ (length x1 + (length x2 + i)) ∙ past (n * 1) x1 _ (length x2 + i) ∙ past (n * 2) x2 _ i
-      ∙ at-moved (n * 3) x3 i h
+      ∙ at-shifted (n * 3) x3 i h
 
 -- ---- one digit
 -- even numbers have even digits, and are never among the low ones
@@ -108,7 +108,7 @@ number-off ms false false zero i l f h =
 number-off ms false false (suc zero) i l f h = absurd f
 number-off ms false false (suc (suc zero)) i l f h =
     let e : length (blocks.even ms) + 0 + i ≡ length (blocks.even ms) + i = omega arith in
-    ap₂ (λ (xs : List ℕ) (k : ℕ). getD xs k 0) (even-blocks ms) e ∙ past (size ms * 0) (blocks.even ms) _ i ∙ at-moved (size ms * 2) (blocks.even ms) i h
+    ap₂ (λ (xs : List ℕ) (k : ℕ). getD xs k 0) (even-blocks ms) e ∙ past (size ms * 0) (blocks.even ms) _ i ∙ at-shifted (size ms * 2) (blocks.even ms) i h
 number-off ms false false (suc (suc (suc d))) i l f h = absurd f
 
 at-below : (n : ℕ) (xs : List ℕ) (i : ℕ) → Below n xs → i < length xs → getD xs i 0 < n
@@ -182,8 +182,8 @@ module _ (a b : ℕ) (h : a + b ≤ 12) where
       → (firstWidth p (size (level a b j)) (evenTo a b j) ≡ length (numbers p false (level a b j)))
       × (lowWidth p (size (level a b j)) (evenTo a b j) ≡ lows p (level a b j))
       × (pick low (lows p (level a b j)) (length (numbers p false (level a b j))) ≡ length (numbers p low (level a b j)))
-  widths true true j k s = let c = counts a b h j k in let c0 = c .0 in let c1 = c .1 in (omega arith, omega arith, refl)
-  widths true false j k s = let c = counts a b h j k in let c0 = c .0 in let c1 = c .1 in (omega arith, omega arith, refl)
+  widths true true j k s = let c = level-counts a b h j k in let c0 = c .0 in let c1 = c .1 in (omega arith, omega arith, refl)
+  widths true false j k s = let c = level-counts a b h j k in let c0 = c .0 in let c1 = c .1 in (omega arith, omega arith, refl)
   widths false true j k s = absurd s
   widths false false j k s = (refl, refl, refl)
 
@@ -208,7 +208,7 @@ module _ (a b : ℕ) (h : a + b ≤ 12) where
       let d = down-counts n e j k x y in
       let d0 = d .0 in
       let d1 = d .1 in
-      let c = counts a b h j (omega arith) .1 in
+      let c = level-counts a b h j (omega arith) .1 in
       let t = size-take (moduli a b) (a + j) .1 in
       let z = size-moduli a b h in
       let q : 2 ^ (a + 2 * b) ≤ 2 ^ 24 = pow-mono {i = a + 2 * b} {j = 24} (omega arith) in
@@ -252,15 +252,15 @@ module _ (a b : ℕ) (h : a + b ≤ 12) where
 
 -- ---- the block of an index, by three tests
 -- how many blocks start at k or before
-abbrev pub digitAt : ℕ → ℕ → ℕ → ℕ
-digitAt k s m = gate (leb s k) 1 + gate (leb (s + m) k) 1 + gate (leb (2 * s + m) k) 1
+abbrev pub blockDigit : ℕ → ℕ → ℕ → ℕ
+blockDigit k s m = gate (leb s k) 1 + gate (leb (s + m) k) 1 + gate (leb (2 * s + m) k) 1
 
 abbrev pub startAt : ℕ → ℕ → ℕ → ℕ
 startAt k s m = gate (leb s k) s + gate (leb (s + m) k) m + gate (leb (2 * s + m) k) s
 
 pub block-found : (k : ℕ) (low : Bool) (first m : ℕ) → k < 2 * pick low m first + m + first
     → (startAt k (pick low m first) m ≤ k)
-    × InBlock k low first m (digitAt k (pick low m first) m) (k - startAt k (pick low m first) m) (lowAfter low (digitAt k (pick low m first) m))
+    × InBlock k low first m (blockDigit k (pick low m first) m) (k - startAt k (pick low m first) m) (lowAfter low (blockDigit k (pick low m first) m))
 block-found k low first m l = go (leb s k) refl (leb (s + m) k) refl (leb (2 * s + m) k) refl
   where
     s : ℕ
@@ -289,7 +289,7 @@ block-found k low first m l = go (leb s k) refl (leb (s + m) k) refl (leb (2 * s
     cases true false true e f g = absurd (omega arith)
 
     go : (x : Bool) → leb s k ≡ x → (y : Bool) → leb (s + m) k ≡ y → (z : Bool) → leb (2 * s + m) k ≡ z
-        → (startAt k s m ≤ k) × InBlock k low first m (digitAt k s m) (k - startAt k s m) (lowAfter low (digitAt k s m))
+        → (startAt k s m ≤ k) × InBlock k low first m (blockDigit k s m) (k - startAt k s m) (lowAfter low (blockDigit k s m))
     go x e y f z g = rw (e, f, g) (cases x y z (told x s e) (told y (s + m) f) (told z (2 * s + m) g))
 
 -- ---- from an index to the element: the digits so far, and the index in the block of the others
@@ -404,12 +404,12 @@ factor-small f d (inl e) l = rw e (omega arith)
 factor-small f d (inr e) l = rw e (omega arith)
 
 -- ---- the binary digits, written before the others
-pub record Bits (a k : ℕ) (x r : List ℕ) (left i : ℕ) : Type 0 where
+pub record LowBits (a k : ℕ) (x r : List ℕ) (left i : ℕ) : Type 0 where
   pub up : i ≤ a
   pub front : Left a 0 k r left i
   pub back : drop i r ≡ drop i x
 
-pub bits-step : (a k : ℕ) (x r : List ℕ) (left i : ℕ) → a ≤ 12 → Bits a k x r left i → i < a → Bits a k x (set r i (left % 2)) (left / 2) (i + 1)
+pub bits-step : (a k : ℕ) (x r : List ℕ) (left i : ℕ) → a ≤ 12 → LowBits a k x r left i → i < a → LowBits a k x (set r i (left % 2)) (left / 2) (i + 1)
 bits-step a k x r left i h w l =
     record {
       up = omega arith;
@@ -423,7 +423,7 @@ take-element zero ms k = refl
 take-element (suc n) [] k = refl
 take-element (suc n) (m ∷ ms) k = ap {B = List ℕ} (λ (r : List ℕ). k % radix m ∷ r) (take-element n ms (k / radix m))
 
-pub bits-end : (a k : ℕ) (x r : List ℕ) (left i : ℕ) → Bits a k x r left i → a ≤ i → r ≡ element (level a 0 0) k ++ drop a x
+pub bits-end : (a k : ℕ) (x r : List ℕ) (left i : ℕ) → LowBits a k x r left i → a ≤ i → r ≡ element (level a 0 0) k ++ drop a x
 bits-end a k x r left i w l =
     let z : i ≡ a = omega (arith, w .up) in
     let y : i ≡ a + 0 = omega arith in

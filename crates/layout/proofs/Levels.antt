@@ -10,11 +10,11 @@ use lib.ListN.{length, take, length-append}
 use lib.Seq.{take-suc}
 use Rattle.group.specs.Group.{Modulus, one, two, four, radix, moduli, moduliOf, tl, element, size}
 use Rattle.group.specs.Sign.{lead}
-use Rattle.group.specs.Weights.{moved}
+use Rattle.group.specs.Weights.{shifted, Below}
 use Rattle.group.proofs.Fill.{length-moduli, moduli-two, moduli-four}
 use Rattle.group.proofs.Unit.{size-take-suc}
 use Rattle.group.proofs.Snoc.{size-snoc}
-use Rattle.group.proofs.Weights.{Below, length-moved}
+use Rattle.group.proofs.Weights.{length-shifted}
 use Rattle.layout.specs.Layout.{from}
 use Rattle.layout.specs.Blocks as blocks
 use Rattle.layout.specs.Blocks.{select, signAt, inPlus, inLow, inEven, level, plusTo, evenTo}
@@ -105,9 +105,9 @@ module _ (a b : ℕ) where
 
 -- ---- how many
 four-lengths : (c0 c1 c2 c3 : ℕ) (x0 x1 x2 x3 : List ℕ)
-    → length (moved c0 x0 ++ (moved c1 x1 ++ (moved c2 x2 ++ moved c3 x3))) ≡ length x0 + (length x1 + (length x2 + length x3))
+    → length (shifted c0 x0 ++ (shifted c1 x1 ++ (shifted c2 x2 ++ shifted c3 x3))) ≡ length x0 + (length x1 + (length x2 + length x3))
 four-lengths c0 c1 c2 c3 x0 x1 x2 x3 =
-    rw (length-append, length-append, length-append, length-moved, length-moved, length-moved, length-moved) refl
+    rw (length-append, length-append, length-append, length-shifted, length-shifted, length-shifted, length-shifted) refl
 
 module _ (a b : ℕ) (h : a + b ≤ 12) where
   pub plus-next : (j : ℕ) → j < b → plusTo a b (suc j) ≡ plusTo a b j + (length (blocks.low (level a b j)) + (plusTo a b j + plusTo a b j))
@@ -120,19 +120,19 @@ module _ (a b : ℕ) (h : a + b ≤ 12) where
   pub even-next : (j : ℕ) → j < b → evenTo a b (suc j) ≡ evenTo a b j + evenTo a b j
   even-next j k =
       ap (λ (ms : List Modulus). length (blocks.even ms)) (level-next a b j h k) ∙ ap length (even-blocks (level a b j))
-      ∙ rw (length-append, length-moved, length-moved) refl
+      ∙ rw (length-append, length-shifted, length-shifted) refl
 
   pub size-next : (j : ℕ) → j < b → size (level a b (suc j)) ≡ size (level a b j) * 4
   size-next j k = ap size (level-next a b j h k) ∙ size-snoc (level a b j) four
 
-  pub counts : (j : ℕ) → j ≤ b → (length (blocks.low (level a b j)) ≡ plusTo a b j + evenTo a b j) × (size (level a b j) ≡ 2 * plusTo a b j + evenTo a b j)
-  counts zero k =
+  pub level-counts : (j : ℕ) → j ≤ b → (length (blocks.low (level a b j)) ≡ plusTo a b j + evenTo a b j) × (size (level a b j) ≡ 2 * plusTo a b j + evenTo a b j)
+  level-counts zero k =
       let p : plusTo a b 0 ≡ 0 = ap length (plus-none a b) in
       let l : length (blocks.low (level a b 0)) ≡ size (level a b 0) = ap length (low-none a b) ∙ length-from (size (level a b 0)) 0 in
       let e : evenTo a b 0 ≡ size (level a b 0) = ap length (even-none a b) ∙ length-from (size (level a b 0)) 0 in
       (omega arith, omega arith)
-  counts (suc j) k =
-      let i = counts j (omega arith) in
+  level-counts (suc j) k =
+      let i = level-counts j (omega arith) in
       let p = plus-next j (omega arith) in
       let l = low-next j (omega arith) in
       let e = even-next j (omega arith) in

@@ -74,10 +74,10 @@ module _ (a b : ℕ) (h : a + b ≤ 12) (x : List ℕ) where
       subst (λ (c : Modulus). getD x i 0 < radix c) (moduli-one a b i (omega arith) (omega arith)) (valid-at (moduli a b) x i v (omega arith))
 
 -- ---- the place that has an element, if it is one of the code's, is the element's place
-pub place-within : (ms : List Modulus) (e : List ℕ) (p : ℕ) → Valid ms e → p < size ms → elementAt ms p ≡ e → p ≡ placeOf ms e
+pub place-found : (ms : List Modulus) (e : List ℕ) (p : ℕ) → Valid ms e → p < size ms → elementAt ms p ≡ e → p ≡ placeOf ms e
 unfolding elementAt
-place-within ms e zero v l k = sym (place-none ms e (λ w. sym k))
-place-within ms e (suc i) v l k =
+place-found ms e zero v l k = sym (place-none ms e (λ w. sym k))
+place-found ms e (suc i) v l k =
     let n = length-places ms in
     sym (place-unique ms e (suc i) v (λ z. place-nonzero ms i (omega arith) (k ∙ z)) (omega arith) k)
 

@@ -19,7 +19,7 @@ use Rattle.group.proofs.Snoc.{element-behind}
 use Rattle.layout.specs.Blocks.{level, plusTo, evenTo}
 use Rattle.layout.specs.Parts.{signOf, pick, numbers, firstWidth, lowWidth, offset, lowAfter, Based}
 use Rattle.layout.proofs.Lists.{length-from}
-use Rattle.layout.proofs.Levels.{level-none, low-none, even-none, plus-next, low-next, even-next, counts}
+use Rattle.layout.proofs.Levels.{level-none, low-none, even-none, plus-next, low-next, even-next, level-counts}
 use Rattle.layout.proofs.Splits.{even-power, size-low}
 use Rattle.layout.proofs.Descents.{Fits, Kind, lows, number-below, element-off, numbers-all, numbers-none, down-counts, down-widths, down-asks, take-element}
 
@@ -163,7 +163,7 @@ pub record Rising (a b : ℕ) (p : Bool) (z : List ℕ) (n e k : ℕ) (low : Boo
 pub numbers-few : (a b : ℕ) → a + b ≤ 12 → (p : Bool) → length (numbers p false (moduli a b)) < 2 ^ 25
 numbers-few a b h p =
     let y = ap length (numbers-all a b h p) in
-    let c = counts a b h b (omega arith) .1 in
+    let c = level-counts a b h b (omega arith) .1 in
     let s = size-in-use a b ∙ size-moduli a b h in
     let t : 2 ^ (a + 2 * b) ≤ 2 ^ 24 = pow-mono {i = a + 2 * b} {j = 24} (omega arith) in
     go p y c s t

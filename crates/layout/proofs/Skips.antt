@@ -11,7 +11,7 @@ use Rattle.group.proofs.Unit.{size-in-use}
 use Rattle.layout.specs.Layout.{pairs}
 use Rattle.layout.specs.Blocks.{plus, plusTo, evenTo}
 use Rattle.layout.specs.Parts.{PastTwos, PastFours, BeforeTwos, BeforeFours}
-use Rattle.layout.proofs.Levels.{plus-none, plus-next, even-next, counts}
+use Rattle.layout.proofs.Levels.{plus-none, plus-next, even-next, level-counts}
 use Rattle.layout.proofs.Members.{plus-all}
 use Rattle.layout.proofs.Splits.{even-power, message-counts}
 
@@ -54,13 +54,13 @@ plus-down a b h e u (suc j) l k x y =
     let z : suc j - 1 ≡ j = omega arith in
     let n = even-next a b h j k in
     let p = plus-next a b h j k in
-    let c = counts a b h j (omega arith) .0 in
+    let c = level-counts a b h j (omega arith) .0 in
     rw z (omega arith, omega arith, omega arith)
 
 pub plus-whole : (a b : ℕ) → a + b ≤ 12 → (2 ^ (a + b) ≤ 2 ^ (a + 2 * b)) × (2 ^ (a + b) ≡ evenTo a b b) × ((2 ^ (a + 2 * b) - 2 ^ (a + b)) / 2 ≡ plusTo a b b)
 plus-whole a b h =
     let e = even-power a b h b (omega arith) in
-    let c = counts a b h b (omega arith) .1 in
+    let c = level-counts a b h b (omega arith) .1 in
     let s = size-in-use a b ∙ size-moduli a b h in
     (omega arith, sym e, omega arith)
 

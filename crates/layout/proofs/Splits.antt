@@ -21,7 +21,7 @@ use Rattle.layout.specs.Blocks.{select, signAt, inPlus, inEven, skips, l
 use Rattle.layout.proofs.Lists.{from-append}
 use Rattle.layout.proofs.Sizes.{length-singles, length-pairs, shape-moduli}
 use Rattle.layout.proofs.Blocks.{select-yes, select-append, plus-0, plus-1}
-use Rattle.layout.proofs.Levels.{level-next, size-next, even-next, even-first, counts, even-none}
+use Rattle.layout.proofs.Levels.{level-next, size-next, even-next, even-first, level-counts, even-none}
 use Rattle.layout.proofs.Members.{select-same, skips-pos, sign-level}
 
 -- ---- units
@@ -192,6 +192,6 @@ module _ (a b : ℕ) (h : a + b ≤ 12) where
       let x = length-singles (moduli a b) in
       let y = length-pairs (moduli a b) in
       let e = even-power b (omega arith) in
-      let c = counts a b h b (omega arith) .1 in
+      let c = level-counts a b h b (omega arith) .1 in
       let z = size-in-use a b in
       (omega arith, omega arith, omega arith)

@@ -1,7 +1,8 @@
 // The layout of places: which parameters are admitted, the element of a place, and the place of an
 // element. No table is kept: an element's index among those of its sign follows from its digits, and
-// the other way round (descent.rt), and the units before it are left out (skip.rt). Definitions are in specs/Parameters.antt and specs/Layout.antt, the theorems
-// on them in proofs/Places.antt and proofs/Theorem.antt.
+// the other way round (descent.rt), and the units before it are left out (skip.rt). Definitions are in
+// specs/Parameters.antt and specs/Layout.antt, the theorems on them in proofs/Places.antt and
+// proofs/Theorem.antt.
 mod descent;
 mod skip;
 

@@ -14,24 +14,24 @@ use Rattle.group.specs.Group.{moduli, hd, tl, size}
 use Rattle.layout.specs.Layout.{from, singles, pairs}
 use Rattle.layout.specs.Blocks as blocks
 use Rattle.layout.specs.Blocks.{level, plusTo, evenTo}
-use Rattle.layout.proofs.Levels.{plus-next, even-next, even-first, counts, plus-none}
+use Rattle.layout.proofs.Levels.{plus-next, even-next, even-first, level-counts, plus-none}
 use Rattle.layout.proofs.Splits.{pair-counts, plus-rises, pow-pos, pow-rises, even-power, message-counts}
 use Rattle.folds.specs.Folds.{widest, room}
 use Rattle.folds.proofs.Levelling.{twelve}
 use Rattle.folds.proofs.Wholes.{size-room}
 use Rattle.words.specs.Choice.{pick}
 use Rattle.words.specs.Digits.{digit}
-use Rattle.words.specs.Spread.{widthOf, spread, run, Laid}
+use Rattle.words.specs.Spread.{widthOf, spread, row, Laid}
 use Rattle.words.proofs.Combining.{digit-lt}
 use Rattle.words.proofs.Segments.{pair-segment, low-segment, even-segment, spread-zero, spread-none}
 
 -- ---- weights in a row, by index
-pub length-run : (p : Bool) (n : ℕ) (w : List ℕ) → length (run p n w) ≡ widthOf p * n
-unfolding run
-length-run true zero w = refl
-length-run false zero w = refl
-length-run true (suc n) w = let i = length-run true n (tl (tl w)) in omega arith
-length-run false (suc n) w = let i = length-run false n (tl w) in omega arith
+pub length-row : (p : Bool) (n : ℕ) (w : List ℕ) → length (row p n w) ≡ widthOf p * n
+unfolding row
+length-row true zero w = refl
+length-row false zero w = refl
+length-row true (suc n) w = let i = length-row true n (tl (tl w)) in omega arith
+length-row false (suc n) w = let i = length-row false n (tl w) in omega arith
 
 getD-tl : (w : List ℕ) (i : ℕ) → getD (tl w) i 0 ≡ getD w (suc i) 0
 getD-tl [] i = refl
@@ -41,8 +41,8 @@ hd-getD : (w : List ℕ) → hd w ≡ getD w 0 0
 hd-getD [] = refl
 hd-getD (x ∷ w) = refl
 
-pub byte-at : (n i : ℕ) (w : List ℕ) → i < n → getD (run false n w) i 0 ≡ getD w i 0
-unfolding run
+pub byte-at : (n i : ℕ) (w : List ℕ) → i < n → getD (row false n w) i 0 ≡ getD w i 0
+unfolding row
 byte-at zero i w h = absurd (omega arith)
 byte-at (suc n) zero w h = hd-getD w
 byte-at (suc n) (suc i) w h = byte-at n i (tl w) (omega arith) ∙ getD-tl w i
@@ -50,8 +50,8 @@ byte-at (suc n) (suc i) w h = byte-at n i (tl w) (omega arith) ∙ getD-tl w i
 abbrev neighbours : List ℕ → ℕ → ℕ
 neighbours w i = pick (eqb (i % 2) 0) (digit (getD w i 0) (getD w (i + 1) 0)) 0
 
-pub digit-at : (n i : ℕ) (w : List ℕ) → i < 2 * n → getD (run true n w) i 0 ≡ neighbours w i
-unfolding run
+pub digit-at : (n i : ℕ) (w : List ℕ) → i < 2 * n → getD (row true n w) i 0 ≡ neighbours w i
+unfolding row
 digit-at zero i w h = absurd (omega arith)
 digit-at (suc n) zero w h = ap₂ digit (hd-getD w) (hd-getD (tl w) ∙ getD-tl w 0)
 digit-at (suc n) (suc zero) w h = refl
@@ -99,17 +99,17 @@ copy-done g v₀ k n v i f h =
     ap (λ (j : ℕ). take (k + j) v) (sym z) ∙ f .front ∙ ap (λ (j : ℕ). take k v₀ ++ take j g) z
 
 -- what the two loops write
-pub byte-write : (w : List ℕ) (at n i : ℕ) → i < n → getD w (at + i) 0 ≡ getD (run false n (drop at w)) i 0
+pub byte-write : (w : List ℕ) (at n i : ℕ) → i < n → getD w (at + i) 0 ≡ getD (row false n (drop at w)) i 0
 byte-write w at n i h = sym (byte-at n i (drop at w) h ∙ getD-drop at w i 0)
 
-pub digit-write : (w : List ℕ) (at n i : ℕ) → i < 2 * n → pick (eqb (i % 2) 0) (digit (getD w (at + i) 0) (getD w (at + i + 1) 0)) 0 ≡ getD (run true n (drop at w)) i 0
+pub digit-write : (w : List ℕ) (at n i : ℕ) → i < 2 * n → pick (eqb (i % 2) 0) (digit (getD w (at + i) 0) (getD w (at + i + 1) 0)) 0 ≡ getD (row true n (drop at w)) i 0
 digit-write w at n i h =
     let a : at + (i + 1) ≡ at + i + 1 = omega arith in
     sym (digit-at n i (drop at w) h
     ∙ ap₂ (λ (x y : ℕ). pick (eqb (i % 2) 0) (digit x y) 0) (getD-drop at w i 0) (getD-drop at w (i + 1) 0 ∙ ap (λ (k : ℕ). getD w k 0) a))
 
 pub digit-wrote : (w : List ℕ) (at n i d x : ℕ) → x ≡ pick (eqb (i % 2) 0) (d % 4) 0 → d ≡ digit (getD w (at + i) 0) (getD w (at + i + 1) 0) → i < 2 * n - 1
-    → x ≡ getD (run true n (drop at w)) i 0
+    → x ≡ getD (row true n (drop at w)) i 0
 digit-wrote w at n i d x e f h =
     let l = digit-lt (getD w (at + i) 0) (getD w (at + i + 1) 0) in
     e ∙ ap (λ (y : ℕ). pick (eqb (i % 2) 0) y 0) (ap (λ (y : ℕ). y % 4) f ∙ mod-eq-of-lt l) ∙ digit-write w at n i (omega arith)
@@ -120,10 +120,10 @@ masked d zero k = and-mask d 2
 masked d (suc zero) k = and-zero-r d
 masked d (suc (suc o)) k = absurd (omega arith)
 
-pub bytes-done : (w v₀ : List ℕ) (at k n : ℕ) (v : List ℕ) (i : ℕ) → Copying (run false n (drop at w)) v₀ k n v i → n ≤ i → take (k + n) v ≡ take k v₀ ++ run false n (drop at w)
+pub bytes-done : (w v₀ : List ℕ) (at k n : ℕ) (v : List ℕ) (i : ℕ) → Copying (row false n (drop at w)) v₀ k n v i → n ≤ i → take (k + n) v ≡ take k v₀ ++ row false n (drop at w)
 bytes-done w v₀ at k n v i f h =
-    let l = length-run false n (drop at w) in
-    copy-done (run false n (drop at w)) v₀ k n v i f h ∙ ap (λ (r : List ℕ). take k v₀ ++ r) (take-all n (run false n (drop at w)) (omega arith))
+    let l = length-row false n (drop at w) in
+    copy-done (row false n (drop at w)) v₀ k n v i f h ∙ ap (λ (r : List ℕ). take k v₀ ++ r) (take-all n (row false n (drop at w)) (omega arith))
 
 -- ---- one segment: of pairs, and of singles
 unit-cleared : (v : List ℕ) (p : ℕ) → 2 * p + 2 ≤ length v → take (2 * p + (2 + 2 * 0)) (set (set v (2 * p) 0) (2 * p + 1) 0) ≡ take (2 * p) v ++ 0 ∷ 0 ∷ []
@@ -137,11 +137,11 @@ unit-cleared v p h =
     ∙ append-assoc (take (2 * p) v) (0 ∷ []) (0 ∷ [])
 
 segment-written : (v u w : List ℕ) (p n at : ℕ) → 0 < n → 2 * p + (2 + 2 * n) ≤ length v → length u ≡ length v
-    → take (2 * p + 2 + (2 * n - 1)) u ≡ take (2 * p + 2) (set (set v (2 * p) 0) (2 * p + 1) 0) ++ take (2 * n - 1) (run true n (drop at w))
-    → take (2 * p + (2 + 2 * n)) (set u (2 * p + 1 + 2 * n) 0) ≡ take (2 * p) v ++ 0 ∷ 0 ∷ run true n (drop at w)
+    → take (2 * p + 2 + (2 * n - 1)) u ≡ take (2 * p + 2) (set (set v (2 * p) 0) (2 * p + 1) 0) ++ take (2 * n - 1) (row true n (drop at w))
+    → take (2 * p + (2 + 2 * n)) (set u (2 * p + 1 + 2 * n) 0) ≡ take (2 * p) v ++ 0 ∷ 0 ∷ row true n (drop at w)
 segment-written v u w p n at h l m e =
-    let g = run true n (drop at w) in
-    let lg : length g ≡ 2 * n = length-run true n (drop at w) in
+    let g = row true n (drop at w) in
+    let lg : length g ≡ 2 * n = length-row true n (drop at w) in
     let a : 2 * p + (2 + 2 * n) ≡ suc (2 * p + 1 + 2 * n) = omega arith in
     let b : 2 * p + 1 + 2 * n ≡ 2 * p + 2 + (2 * n - 1) = omega arith in
     let c : 2 * p + 2 ≡ 2 * p + (2 + 2 * 0) = omega arith in
@@ -161,32 +161,32 @@ segment-written v u w p n at h l m e =
     odd : (n : ℕ) → 0 < n → (2 * n - 1) % 2 ≡ 1
     odd n h = omega arith
 
-single-written : (v u w : List ℕ) (k n at : ℕ) → k < length v → take (k + 1 + n) u ≡ take (k + 1) (set v k 0) ++ run false n (drop at w)
-    → take (k + (1 + n)) u ≡ take k v ++ 0 ∷ run false n (drop at w)
+single-written : (v u w : List ℕ) (k n at : ℕ) → k < length v → take (k + 1 + n) u ≡ take (k + 1) (set v k 0) ++ row false n (drop at w)
+    → take (k + (1 + n)) u ≡ take k v ++ 0 ∷ row false n (drop at w)
 single-written v u w k n at h e =
     let a : k + (1 + n) ≡ k + 1 + n = omega arith in
     ap (λ (i : ℕ). take i u) a ∙ e
-    ∙ ap (λ (r : List ℕ). r ++ run false n (drop at w)) (ap (λ (i : ℕ). take i (set v k 0)) (add-one k) ∙ take-suc-set v k 0 h)
-    ∙ append-assoc (take k v) (0 ∷ []) (run false n (drop at w))
+    ∙ ap (λ (r : List ℕ). r ++ row false n (drop at w)) (ap (λ (i : ℕ). take i (set v k 0)) (add-one k) ∙ take-suc-set v k 0 h)
+    ∙ append-assoc (take k v) (0 ∷ []) (row false n (drop at w))
 
 -- the same, as the functions leave them one after the other
 pub pairs-none : (v x y w : List ℕ) (p n at : ℕ) → n ≡ 0 → 2 * p + (2 + 2 * n) ≤ length v → x ≡ set v (2 * p) 0 → y ≡ set x (2 * p + 1) 0
-    → take (2 * p + (2 + 2 * n)) y ≡ take (2 * p) v ++ 0 ∷ 0 ∷ run true n (drop at w)
-unfolding run
+    → take (2 * p + (2 + 2 * n)) y ≡ take (2 * p) v ++ 0 ∷ 0 ∷ row true n (drop at w)
+unfolding row
 pairs-none v x y w p n at z h e f = rw (z, f, e) (unit-cleared v p (omega arith))
 
 pub pairs-some : (v x y u r w : List ℕ) (p n at : ℕ) → 0 < n → 2 * p + (2 + 2 * n) ≤ length v → x ≡ set v (2 * p) 0 → y ≡ set x (2 * p + 1) 0 → length u ≡ length y
-    → take (2 * p + 2 + (2 * n - 1)) u ≡ take (2 * p + 2) y ++ take (2 * n - 1) (run true n (drop at w)) → r ≡ set u (2 * p + 1 + 2 * n) 0
-    → take (2 * p + (2 + 2 * n)) r ≡ take (2 * p) v ++ 0 ∷ 0 ∷ run true n (drop at w)
+    → take (2 * p + 2 + (2 * n - 1)) u ≡ take (2 * p + 2) y ++ take (2 * n - 1) (row true n (drop at w)) → r ≡ set u (2 * p + 1 + 2 * n) 0
+    → take (2 * p + (2 + 2 * n)) r ≡ take (2 * p) v ++ 0 ∷ 0 ∷ row true n (drop at w)
 pairs-some v x y u r w p n at h l e f m g k =
     let t : y ≡ set (set v (2 * p) 0) (2 * p + 1) 0 = f ∙ ap (λ (q : List ℕ). set q (2 * p + 1) 0) e in
     let o : length u ≡ length v = m ∙ ap length t ∙ length-set (set v (2 * p) 0) (2 * p + 1) 0 ∙ length-set v (2 * p) 0 in
     ap (take (2 * p + (2 + 2 * n))) k
-    ∙ segment-written v u w p n at h l o (g ∙ ap (λ (q : List ℕ). take (2 * p + 2) q ++ take (2 * n - 1) (run true n (drop at w))) t)
+    ∙ segment-written v u w p n at h l o (g ∙ ap (λ (q : List ℕ). take (2 * p + 2) q ++ take (2 * n - 1) (row true n (drop at w))) t)
 
-pub single-done : (v x u w : List ℕ) (k n at : ℕ) → k < length v → x ≡ set v k 0 → take (k + 1 + n) u ≡ take (k + 1) x ++ run false n (drop at w)
-    → take (k + (1 + n)) u ≡ take k v ++ 0 ∷ run false n (drop at w)
-single-done v x u w k n at h e f = single-written v u w k n at h (f ∙ ap (λ (q : List ℕ). take (k + 1) q ++ run false n (drop at w)) e)
+pub single-done : (v x u w : List ℕ) (k n at : ℕ) → k < length v → x ≡ set v k 0 → take (k + 1 + n) u ≡ take (k + 1) x ++ row false n (drop at w)
+    → take (k + (1 + n)) u ≡ take k v ++ 0 ∷ row false n (drop at w)
+single-done v x u w k n at h e f = single-written v u w k n at h (f ∙ ap (λ (q : List ℕ). take (k + 1) q ++ row false n (drop at w)) e)
 
 -- ---- the loop of `pairs`
 pub record Pairing (a b part : ℕ) (w v : List ℕ) (p e at j : ℕ) : Type 0 where
@@ -248,7 +248,7 @@ module _ (a b count part : ℕ) (w : List ℕ) (L : Laid a b count part (length 
       let y = f .evens in
       let z = f .place in
       let n = plus-next a b c j h in
-      let m = counts a b c j (omega arith) .0 in
+      let m = level-counts a b c j (omega arith) .0 in
       let k : suc j + (b - suc j) ≡ b = omega arith in
       let r : plusTo a b (suc j) + (b - suc j) ≤ plusTo a b b =
       subst (λ (t : ℕ). plusTo a b (suc j) + (b - suc j) ≤ plusTo a b t) k (plus-rises a b c (suc j) (b - suc j) (omega arith)) in
@@ -283,7 +283,7 @@ module _ (a b count part : ℕ) (w : List ℕ) (L : Laid a b count part (length 
       reach p e at j y k z s t q f r u g h l o = omega arith
 
   pub pairing-step : (v : List ℕ) (p e at j : ℕ) → Pairing a b part w v p e at j → j < b → (v′ : List ℕ) → length v′ ≡ length v
-      → take (2 * p + (2 + 2 * (3 * p + e - 1))) v′ ≡ take (2 * p) v ++ 0 ∷ 0 ∷ run true (3 * p + e - 1) (drop at w)
+      → take (2 * p + (2 + 2 * (3 * p + e - 1))) v′ ≡ take (2 * p) v ++ 0 ∷ 0 ∷ row true (3 * p + e - 1) (drop at w)
       → Pairing a b part w v′ (4 * p + e) (2 * e) (at + 2 * (3 * p + e - 1)) (j + 1)
   pairing-step v p e at j f h v′ l g =
       let c = components in
@@ -312,7 +312,7 @@ module _ (a b count part : ℕ) (w : List ℕ) (L : Laid a b count part (length 
         place = omega arith;
         wide = l ∙ f .wide;
         front = ap (λ (t : ℕ). take t v′) (sym k) ∙ g
-            ∙ ap₂ (λ (r t : List ℕ). r ++ 0 ∷ 0 ∷ run true n t) (f .front) (sym d)
+            ∙ ap₂ (λ (r t : List ℕ). r ++ 0 ∷ 0 ∷ row true n t) (f .front) (sym d)
             ∙ sym (pair-segment a b c j h n (2 * p - 2 * j) i o0 (drop part w));
       })
     where
@@ -328,7 +328,7 @@ module _ (a b count part : ℕ) (w : List ℕ) (L : Laid a b count part (length 
       ∙ ap (λ (t : ℕ). spread true (moduli a b) (blocks.plus (level a b t)) (drop part w)) z
 
   -- ---- singles
-  pub record Room (e start : ℕ) : Type 0 where
+  pub record SinglesRoom (e start : ℕ) : Type 0 where
     pub evens : e ≡ evenTo a b b
     pub pairs : start ≡ 2 * plusTo a b b
     pub whole : start + e ≡ count
@@ -337,7 +337,7 @@ module _ (a b count part : ℕ) (w : List ℕ) (L : Laid a b count part (length 
     pub bytes : e ≤ length w + a + 1
     pub space : start < room
 
-  pub room-for : (e start : ℕ) → e ≡ part + a + 1 → start ≡ count - e → Room e start
+  pub room-for : (e start : ℕ) → e ≡ part + a + 1 → start ≡ count - e → SinglesRoom e start
   room-for e start x y =
       let s = shares in
       let s0 = s .0 in
@@ -364,7 +364,7 @@ module _ (a b count part : ℕ) (w : List ℕ) (L : Laid a b count part (length 
             ∙ ap (λ (r : List ℕ). take start u ++ r) (sym (spread-zero a b components w));
       }
 
-  pub singling-asks : (e start : ℕ) → Room e start → (v₀ v : List ℕ) (n at i : ℕ) → Singling a b start w v₀ v n at i → i < a
+  pub singling-asks : (e start : ℕ) → SinglesRoom e start → (v₀ v : List ℕ) (n at i : ℕ) → Singling a b start w v₀ v n at i → i < a
       → (0 < n) × (at + (n - 1) ≤ length w) × (start + n + (1 + (n - 1)) ≤ length v) × (length v ≤ room) × (2 * n ≤ room)
   singling-asks e start R v₀ v n at i f h =
       let x = f .power in
@@ -384,8 +384,8 @@ module _ (a b count part : ℕ) (w : List ℕ) (L : Laid a b count part (length 
           → (0 < n) × (at + (n - 1) ≤ length w) × (start + n + (1 + (n - 1)) ≤ length v) × (length v ≤ room) × (2 * n ≤ room)
       go n at i q k z x y l r ro rf rs rb p wd = (p, omega arith, omega arith, omega arith, omega arith)
 
-  pub singling-step : (e start : ℕ) → Room e start → (v₀ v : List ℕ) (n at i : ℕ) → Singling a b start w v₀ v n at i → i < a → (v′ : List ℕ) → length v′ ≡ length v
-      → take (start + n + (1 + (n - 1))) v′ ≡ take (start + n) v ++ 0 ∷ run false (n - 1) (drop at w)
+  pub singling-step : (e start : ℕ) → SinglesRoom e start → (v₀ v : List ℕ) (n at i : ℕ) → Singling a b start w v₀ v n at i → i < a → (v′ : List ℕ) → length v′ ≡ length v
+      → take (start + n + (1 + (n - 1))) v′ ≡ take (start + n) v ++ 0 ∷ row false (n - 1) (drop at w)
       → Singling a b start w v₀ v′ (2 * n) (at + (n - 1)) (i + 1)
   singling-step e start R v₀ v n at i f h v′ l g =
       let x = f .power in
@@ -402,13 +402,13 @@ module _ (a b count part : ℕ) (w : List ℕ) (L : Laid a b count part (length 
         place = omega arith;
         wide = l ∙ f .wide;
         front = ap (λ (t : ℕ). take t v′) (sym k) ∙ g
-            ∙ ap₂ (λ (r : List ℕ) (t : ℕ). r ++ 0 ∷ run false t (drop at w)) (f .front) d
-            ∙ append-assoc (take start v₀) (spread false (moduli a b) (from 0 (2 ^ i)) w) (0 ∷ run false (2 ^ i - 1) (drop at w))
+            ∙ ap₂ (λ (r : List ℕ) (t : ℕ). r ++ 0 ∷ row false t (drop at w)) (f .front) d
+            ∙ append-assoc (take start v₀) (spread false (moduli a b) (from 0 (2 ^ i)) w) (0 ∷ row false (2 ^ i - 1) (drop at w))
             ∙ ap (λ (r : List ℕ). take start v₀ ++ r) (sym (low-segment a b components i h at (omega arith) w));
       })
 
   -- after the last unit
-  pub singling-end : (e start : ℕ) → Room e start → (v₀ v : List ℕ) (n at i : ℕ) → Singling a b start w v₀ v n at i → a ≤ i
+  pub singling-end : (e start : ℕ) → SinglesRoom e start → (v₀ v : List ℕ) (n at i : ℕ) → Singling a b start w v₀ v n at i → a ≤ i
       → (n ≤ e) × (at + (e - n) ≤ length w) × (start + n + (e - n) ≤ length v) × (length v ≤ room)
   singling-end e start R v₀ v n at i f h =
       let wi = f .within in
@@ -423,8 +423,8 @@ module _ (a b count part : ℕ) (w : List ℕ) (L : Laid a b count part (length 
       let rb = R .bytes in
       (omega arith, omega arith, omega arith, omega arith)
 
-  pub singling-done : (e start : ℕ) → Room e start → (o v₀ v : List ℕ) (n at i : ℕ) → v₀ ≡ set o start 0 → Singling a b start w v₀ v n at i → a ≤ i → (v′ : List ℕ)
-      → take (start + n + (e - n)) v′ ≡ take (start + n) v ++ run false (e - n) (drop at w)
+  pub singling-done : (e start : ℕ) → SinglesRoom e start → (o v₀ v : List ℕ) (n at i : ℕ) → v₀ ≡ set o start 0 → Singling a b start w v₀ v n at i → a ≤ i → (v′ : List ℕ)
+      → take (start + n + (e - n)) v′ ≡ take (start + n) v ++ row false (e - n) (drop at w)
       → take count v′ ≡ take (2 * plusTo a b b) o ++ spread false (moduli a b) (blocks.even (level a b b)) w
   singling-done e start R o v₀ v n at i c f h v′ g =
       let wi = f .within in
@@ -437,7 +437,7 @@ module _ (a b count part : ℕ) (w : List ℕ) (L : Laid a b count part (length 
       let k : start + n + (e - n) ≡ count = omega arith in
       let s = even-segment a b components (e - n) at (omega arith) (omega arith) w in
       ap (λ (t : ℕ). take t v′) (sym k) ∙ g
-      ∙ ap (λ (r : List ℕ). r ++ run false (e - n) (drop at w)) (f .front ∙ ap (λ (t : ℕ). take start v₀ ++ spread false (moduli a b) (from 0 (2 ^ t)) w) z)
-      ∙ append-assoc (take start v₀) (spread false (moduli a b) (from 0 (2 ^ a)) w) (run false (e - n) (drop at w))
+      ∙ ap (λ (r : List ℕ). r ++ row false (e - n) (drop at w)) (f .front ∙ ap (λ (t : ℕ). take start v₀ ++ spread false (moduli a b) (from 0 (2 ^ t)) w) z)
+      ∙ append-assoc (take start v₀) (spread false (moduli a b) (from 0 (2 ^ a)) w) (row false (e - n) (drop at w))
       ∙ ap₂ (λ (t r : List ℕ). t ++ r) (ap (take start) c ∙ take-set-le start o start 0 (omega arith)) (sym s)
       ∙ ap (λ (t : ℕ). take t o ++ spread false (moduli a b) (blocks.even (level a b b)) w) (R .pairs)

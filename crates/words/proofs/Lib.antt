@@ -2,8 +2,8 @@
 -- The theorems, for every list of moduli: Perfect and Rule (the one place to flip, and that document 01's rule flips it), Distances (the code
 -- is perfect), Carrying (combining carries correction along), Encoding, Thirds (the third place). Theorem gathers them, there and for
 -- admitted t and r. Widths says which places are binary. Table has document 01's cases marked P.
--- For the code: Syndromes (the syndrome of any bytes, by its parts), Spreads and Segments (the message as weights), Laying (the loops that lay it out), Checking and
--- CheckWriting (check digits read and written), OtherHalf (the other half of a pair, by index), TwoOnes and Told (the third place from the
+-- For the code: Syndromes (the syndrome of any bytes, by its parts), Spreads and Segments (the message as weights), Laying (the loops that
+-- lay it out), Checking and CheckWriting (check digits read and written), OtherHalf (the other half of a pair, by index), TwoOnes and Told (the third place from the
 -- elements of two), Writing (a loop that writes over the front of an output), Shapes (the numbers of a code), PlaceSums (two words
 -- combined, by index), Answers (the calls by their tests), Faults (the place at fault from the syndrome, and a word with one place flipped).
 pub mod Reading

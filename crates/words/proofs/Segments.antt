@@ -21,19 +21,19 @@ use Rattle.layout.proofs.Blocks.{select-no, select-append}
 use Rattle.layout.proofs.Levels.{all-left, size-next, plus-none}
 use Rattle.layout.proofs.Members.{pairs-members, singles-members, plus-all, even-all, sign-level}
 use Rattle.layout.proofs.Splits.{unit-four, no-unit-four, no-unit-two, tail, plus-split, pair-counts, size-twos-of, low-split, pow-pos, unit-low, even-unit, high, size-low, size-rises, even-split}
-use Rattle.folds.specs.Folds.{widest, twice, order, weightedFor}
+use Rattle.folds.specs.Folds.{widest, twice, weightOrder, weightedFor}
 use Rattle.folds.proofs.Levelling.{on-take}
 use Rattle.folds.proofs.Wholes.{with-room, order-fits}
 use Rattle.words.specs.Syndrome.{syndromeOver}
-use Rattle.words.specs.Spread.{spread, run}
+use Rattle.words.specs.Spread.{spread, row}
 use Rattle.words.proofs.Syndromes.{syndrome-parts}
-use Rattle.words.proofs.Spreads.{free, spread-yes, spread-append, spread-run, on-spread, length-spread}
+use Rattle.words.proofs.Spreads.{free, spread-yes, spread-append, spread-row, on-spread, length-spread}
 
 -- ---- the weights make the message's sum
 pub weights-sum : (a b part count : ℕ) (v w : List ℕ) → a + 2 * b ≤ widest → part ≡ length (singles (moduli a b)) → count ≡ size (moduli a b)
     → take count v ≡ spread true (moduli a b) (blocks.plus (level a b b)) (drop part w) ++ spread false (moduli a b) (blocks.even (level a b b)) w
     → weightedFor a b v ≡ syndromeOver (moduli a b) (message (moduli a b)) w
-unfolding message order
+unfolding message weightOrder
 weights-sum a b part count v w few h z e =
     let ms = moduli a b in
     let n : length (places ms (map single (singles ms))) ≡ length (singles ms) = ap length (places-singles ms (singles ms)) in
@@ -44,7 +44,7 @@ weights-sum a b part count v w few h z e =
     let g : take count v ≡ spread true ms (blocks.plus ms) (drop part w) ++ spread false ms (blocks.even ms) w =
     e ∙ ap₂ (λ (xs ys : List ℕ). spread true ms xs (drop part w) ++ spread false ms ys w) (plus-all a b) (even-all a b) in
     with-room a b v few
-    ∙ sym (on-take ms (order ms) v count (rw z (order-fits a b few)))
+    ∙ sym (on-take ms (weightOrder ms) v count (rw z (order-fits a b few)))
     ∙ ap (weighOn ms (twice (blocks.plus ms) ++ blocks.even ms)) g
     ∙ on-append ms (twice (blocks.plus ms)) (blocks.even ms) (spread true ms (blocks.plus ms) (drop part w)) (spread false ms (blocks.even ms) w)
     (length-spread true ms (blocks.plus ms) (drop part w))
@@ -54,13 +54,13 @@ weights-sum a b part count v w few h z e =
     ∙ sym (syndrome-parts ms (map single (singles ms)) (map pair (pairs ms)) w)
 
 module _ (a b : ℕ) (h : a + b ≤ 12) where
-  tail-run : (j : ℕ) → j < b → (w : List ℕ) → (spread true (moduli a b) (tail a b h j) w ≡ run true (length (tail a b h j)) w) × (free (moduli a b) (tail a b h j) ≡ length (tail a b h j))
+  tail-row : (j : ℕ) → j < b → (w : List ℕ) → (spread true (moduli a b) (tail a b h j) w ≡ row true (length (tail a b h j)) w) × (free (moduli a b) (tail a b h j) ≡ length (tail a b h j))
   unfolding tail
-  tail-run j k w =
+  tail-row j k w =
       let n = size (level a b j) in
       let p = size-pos (level a b j) in
       let z = size-next a b h j k in
-      spread-run true (moduli a b) (inPlus (level a b (suc j))) (suc n) (n * 3 - 1) w (λ y l q e. no-unit-four a b h j y k l (omega arith))
+      spread-row true (moduli a b) (inPlus (level a b (suc j))) (suc n) (n * 3 - 1) w (λ y l q e. no-unit-four a b h j y k l (omega arith))
 
   free-append : (xs : List ℕ) (x : ℕ) (ys : List ℕ) → skips (moduli a b) x ≡ true → free (moduli a b) (xs ++ x ∷ ys) ≡ free (moduli a b) xs + free (moduli a b) ys
   free-append xs x ys e =
@@ -74,14 +74,14 @@ module _ (a b : ℕ) (h : a + b ≤ 12) where
       let i = free-plus j (omega arith) in
       let u = unit-four a b h j (omega arith) in
       let c = pair-counts a b h j (omega arith) in
-      let t = tail-run j (omega arith) [] .1 in
+      let t = tail-row j (omega arith) [] .1 in
       let f : free (moduli a b) (blocks.plus (level a b (suc j))) ≡ free (moduli a b) (blocks.plus (level a b j)) + free (moduli a b) (tail a b h j) =
       ap (free (moduli a b)) (plus-split a b h j (omega arith)) ∙ free-append (blocks.plus (level a b j)) (size (level a b j)) (tail a b h j) u in
       omega arith
 
   pub pair-segment : (j : ℕ) → j < b → (n at : ℕ) → n + 1 + plusTo a b j ≡ plusTo a b (suc j) → at + 2 * j ≡ 2 * plusTo a b j → (w : List ℕ)
       → spread true (moduli a b) (blocks.plus (level a b (suc j))) w
-      ≡ spread true (moduli a b) (blocks.plus (level a b j)) w ++ 0 ∷ 0 ∷ run true n (drop at w)
+      ≡ spread true (moduli a b) (blocks.plus (level a b j)) w ++ 0 ∷ 0 ∷ row true n (drop at w)
   pair-segment j k n at e f w =
       let u = moduli a b in
       let xs = blocks.plus (level a b j) in
@@ -94,24 +94,24 @@ module _ (a b : ℕ) (h : a + b ≤ 12) where
       ∙ ap (λ (r : List ℕ). spread true u xs w ++ r)
       (ap (λ (t : ℕ). spread true u (size (level a b j) ∷ tail a b h j) (drop t w)) m
       ∙ spread-yes true u (size (level a b j)) (tail a b h j) (drop at w) (unit-four a b h j k)
-      ∙ ap {B = List ℕ} (λ (r : List ℕ). 0 ∷ 0 ∷ r) (tail-run j k (drop at w) .0 ∙ ap (λ (t : ℕ). run true t (drop at w)) l))
+      ∙ ap {B = List ℕ} (λ (r : List ℕ). 0 ∷ 0 ∷ r) (tail-row j k (drop at w) .0 ∙ ap (λ (t : ℕ). row true t (drop at w)) l))
 
   -- ---- singles: one binary component more, then the others
   abbrev always : ℕ → Bool
   always x = true
 
-  low-run : (i : ℕ) → i < a → (w : List ℕ)
-      → (spread false (moduli a b) (from (suc (2 ^ i)) (2 ^ i - 1)) w ≡ run false (2 ^ i - 1) w) × (free (moduli a b) (from (suc (2 ^ i)) (2 ^ i - 1)) ≡ 2 ^ i - 1)
-  low-run i k w =
+  low-row : (i : ℕ) → i < a → (w : List ℕ)
+      → (spread false (moduli a b) (from (suc (2 ^ i)) (2 ^ i - 1)) w ≡ row false (2 ^ i - 1) w) × (free (moduli a b) (from (suc (2 ^ i)) (2 ^ i - 1)) ≡ 2 ^ i - 1)
+  low-row i k w =
       let s = size-twos-of a b h i (omega arith) in
       let t = size-twos-of a b h (suc i) k in
       let p2 = pow-succ' 2 i in
       let f = all-left always (λ y. refl) (from (suc (2 ^ i)) (2 ^ i - 1)) in
       let l = length-from (2 ^ i - 1) (suc (2 ^ i)) in
-      let r = spread-run false (moduli a b) always (suc (2 ^ i)) (2 ^ i - 1) w (λ y x q e. no-unit-two a b h i y k (rw s x) (rw t (omega arith))) in
-      let r0 : spread false (moduli a b) (from (suc (2 ^ i)) (2 ^ i - 1)) w ≡ run false (length (from (suc (2 ^ i)) (2 ^ i - 1))) w = rw f at (r .0) in
+      let r = spread-row false (moduli a b) always (suc (2 ^ i)) (2 ^ i - 1) w (λ y x q e. no-unit-two a b h i y k (rw s x) (rw t (omega arith))) in
+      let r0 : spread false (moduli a b) (from (suc (2 ^ i)) (2 ^ i - 1)) w ≡ row false (length (from (suc (2 ^ i)) (2 ^ i - 1))) w = rw f at (r .0) in
       let r1 : free (moduli a b) (from (suc (2 ^ i)) (2 ^ i - 1)) ≡ length (from (suc (2 ^ i)) (2 ^ i - 1)) = rw f at (r .1) in
-      (r0 ∙ ap (λ (n : ℕ). run false n w) l, r1 ∙ l)
+      (r0 ∙ ap (λ (n : ℕ). row false n w) l, r1 ∙ l)
 
   pub free-low : (i : ℕ) → i ≤ a → free (moduli a b) (from 0 (2 ^ i)) + i + 1 ≡ 2 ^ i
   unfolding from select
@@ -119,13 +119,13 @@ module _ (a b : ℕ) (h : a + b ≤ 12) where
   free-low (suc i) k =
       let r = free-low i (omega arith) in
       let p = pow-pos a b h i in
-      let l = low-run i (omega arith) [] .1 in
+      let l = low-row i (omega arith) [] .1 in
       let f : free (moduli a b) (from 0 (2 ^ suc i)) ≡ free (moduli a b) (from 0 (2 ^ i)) + free (moduli a b) (from (suc (2 ^ i)) (2 ^ i - 1)) =
       ap (free (moduli a b)) (low-split a b h i p) ∙ free-append (from 0 (2 ^ i)) (2 ^ i) (from (suc (2 ^ i)) (2 ^ i - 1)) (unit-low a b h i (omega arith)) in
       omega (arith, pow-succ' 2 i)
 
   pub low-segment : (i : ℕ) → i < a → (at : ℕ) → at + i + 1 ≡ 2 ^ i → (w : List ℕ)
-      → spread false (moduli a b) (from 0 (2 ^ suc i)) w ≡ spread false (moduli a b) (from 0 (2 ^ i)) w ++ 0 ∷ run false (2 ^ i - 1) (drop at w)
+      → spread false (moduli a b) (from 0 (2 ^ suc i)) w ≡ spread false (moduli a b) (from 0 (2 ^ i)) w ++ 0 ∷ row false (2 ^ i - 1) (drop at w)
   low-segment i k at e w =
       let u = moduli a b in
       let r = free-low i (omega arith) in
@@ -135,10 +135,10 @@ module _ (a b : ℕ) (h : a + b ≤ 12) where
       ∙ ap (λ (r : List ℕ). spread false u (from 0 (2 ^ i)) w ++ r)
       (ap (λ (t : ℕ). spread false u (2 ^ i ∷ from (suc (2 ^ i)) (2 ^ i - 1)) (drop t w)) m
       ∙ spread-yes false u (2 ^ i) (from (suc (2 ^ i)) (2 ^ i - 1)) (drop at w) (unit-low a b h i k)
-      ∙ ap {B = List ℕ} (λ (r : List ℕ). 0 ∷ r) (low-run i k (drop at w) .0))
+      ∙ ap {B = List ℕ} (λ (r : List ℕ). 0 ∷ r) (low-row i k (drop at w) .0))
 
   pub even-segment : (n at : ℕ) → n + 2 ^ a ≡ evenTo a b b → at + a + 1 ≡ 2 ^ a → (w : List ℕ)
-      → spread false (moduli a b) (blocks.even (level a b b)) w ≡ spread false (moduli a b) (from 0 (2 ^ a)) w ++ run false n (drop at w)
+      → spread false (moduli a b) (blocks.even (level a b b)) w ≡ spread false (moduli a b) (from 0 (2 ^ a)) w ++ row false n (drop at w)
   unfolding high
   even-segment n at e f w =
       let u = moduli a b in
@@ -149,12 +149,12 @@ module _ (a b : ℕ) (h : a + b ≤ 12) where
       let l : length (high a b h) ≡ n = omega arith in
       let z = size-rises a b h b (omega arith) in
       let s = size-low a b h in
-      let t = spread-run false u (inEven (level a b b)) (2 ^ a) (size (level a b b) - 2 ^ a) (drop at w)
+      let t = spread-row false u (inEven (level a b b)) (2 ^ a) (size (level a b b) - 2 ^ a) (drop at w)
       (λ y x q g. even-unit a b h b y (omega arith) (omega arith) (omega arith) (sign-level a b b y (omega arith) ∙ eqb-true (signAt (level a b b) y) 0 g)) in
       ap (λ (r : List ℕ). spread false u r w) (even-split a b h)
       ∙ spread-append false u (from 0 (2 ^ a)) (high a b h) w
       ∙ ap (λ (r : List ℕ). spread false u (from 0 (2 ^ a)) w ++ r)
-      (ap (λ (t : ℕ). spread false u (high a b h) (drop t w)) m ∙ t .0 ∙ ap (λ (k : ℕ). run false k (drop at w)) l)
+      (ap (λ (t : ℕ). spread false u (high a b h) (drop t w)) m ∙ t .0 ∙ ap (λ (k : ℕ). row false k (drop at w)) l)
 
   pub spread-zero : (w : List ℕ) → spread false (moduli a b) (from 0 (2 ^ 0)) w ≡ 0 ∷ []
   unfolding from spread

@@ -13,19 +13,18 @@ use Rattle.layout.specs.Layout.{Slot, from}
 use Rattle.layout.specs.Blocks.{select, skips, others}
 use Rattle.layout.proofs.Blocks.{select-yes, select-no}
 use Rattle.folds.specs.Folds.{twice}
-use Rattle.words.specs.Choice.{pick}
 use Rattle.words.specs.Syndrome.{syndromeOver}
-use Rattle.words.specs.Spread.{readOf, restOf, widthOf, slotOf, eachOf, weightOf, spread, run}
+use Rattle.words.specs.Spread.{readOf, restOf, widthOf, slotOf, eachOf, weightOf, spread, row}
 
 -- ---- one weight
 module _ (p : Bool) (ms : List Modulus) (x : ℕ) (xs w : List ℕ) where
   pub spread-yes : skips ms x ≡ true → spread p ms (x ∷ xs) w ≡ weightOf p 0 (spread p ms xs w)
   unfolding spread
-  spread-yes e = ap (λ (b : Bool). pick b (weightOf p 0 (spread p ms xs w)) (weightOf p (readOf p w) (spread p ms xs (restOf p w)))) e
+  spread-yes e = rw e refl
 
   spread-no : skips ms x ≡ false → spread p ms (x ∷ xs) w ≡ weightOf p (readOf p w) (spread p ms xs (restOf p w))
   unfolding spread
-  spread-no e = ap (λ (b : Bool). pick b (weightOf p 0 (spread p ms xs w)) (weightOf p (readOf p w) (spread p ms xs (restOf p w)))) e
+  spread-no e = rw e refl
 
 pub weight-append : (p : Bool) (d : ℕ) (u v : List ℕ) → weightOf p d (u ++ v) ≡ weightOf p d u ++ v
 weight-append true d u v = refl
@@ -39,6 +38,12 @@ on-weight true ms x d xs v =
     ap (sum ms (times ms d (element ms x)))
     (ap (λ (r : List ℕ). sum ms r (weighOn ms (twice xs) v)) (times-zero ms (element ms x)) ∙ zero-sum ms (weighOn ms (twice xs) v) (valid-on ms (twice xs) v))
 on-weight false ms x d xs v = refl
+
+on-none : (p : Bool) (ms : List Modulus) (x : ℕ) (xs v : List ℕ) → weighOn ms (eachOf p (x ∷ xs)) (weightOf p 0 v) ≡ weighOn ms (eachOf p xs) v
+on-none p ms x xs v =
+    on-weight p ms x 0 xs v
+    ∙ ap (λ (r : List ℕ). sum ms r (weighOn ms (eachOf p xs) v)) (times-zero ms (element ms x))
+    ∙ zero-sum ms (weighOn ms (eachOf p xs) v) (valid-on ms (eachOf p xs) v)
 
 syndrome-slot : (p : Bool) (ms : List Modulus) (e : List ℕ) (sl : List Slot) (w : List ℕ)
     → syndromeOver ms (slotOf p e ∷ sl) w ≡ sum ms (times ms (readOf p w) e) (syndromeOver ms sl (restOf p w))
@@ -57,18 +62,14 @@ on-spread p ms (x ∷ xs) w = go (skips ms x) refl (λ z. on-spread p ms xs z)
     go : (b : Bool) → skips ms x ≡ b → ((z : List ℕ) → weighOn ms (eachOf p xs) (spread p ms xs z) ≡ syndromeOver ms (map (slotOf p) (map (element ms) (select (others ms) xs))) z)
         → weighOn ms (eachOf p (x ∷ xs)) (spread p ms (x ∷ xs) w) ≡ syndromeOver ms (map (slotOf p) (map (element ms) (select (others ms) (x ∷ xs)))) w
     go true e i =
-        ap (weighOn ms (eachOf p (x ∷ xs))) (spread-yes p ms x xs w e)
-        ∙ on-weight p ms x 0 xs (spread p ms xs w)
-        ∙ ap (λ (r : List ℕ). sum ms r (weighOn ms (eachOf p xs) (spread p ms xs w))) (times-zero ms (element ms x))
-        ∙ zero-sum ms (weighOn ms (eachOf p xs) (spread p ms xs w)) (valid-on ms (eachOf p xs) (spread p ms xs w))
+        rw e (on-none p ms x xs _
         ∙ i w
-        ∙ ap (λ (ys : List ℕ). syndromeOver ms (map (slotOf p) (map (element ms) ys)) w) (sym (select-no (others ms) x xs (ap not e)))
+        ∙ ap (λ (ys : List ℕ). syndromeOver ms (map (slotOf p) (map (element ms) ys)) w) (sym (select-no (others ms) x xs (ap not e))))
     go false e i =
-        ap (weighOn ms (eachOf p (x ∷ xs))) (spread-no p ms x xs w e)
-        ∙ on-weight p ms x (readOf p w) xs (spread p ms xs (restOf p w))
+        rw e (on-weight p ms x (readOf p w) xs _
         ∙ ap (sum ms (times ms (readOf p w) (element ms x))) (i (restOf p w))
         ∙ sym (syndrome-slot p ms (element ms x) (map (slotOf p) (map (element ms) (select (others ms) xs))) w)
-        ∙ ap (λ (ys : List ℕ). syndromeOver ms (map (slotOf p) (map (element ms) ys)) w) (sym (select-yes (others ms) x xs (ap not e)))
+        ∙ ap (λ (ys : List ℕ). syndromeOver ms (map (slotOf p) (map (element ms) ys)) w) (sym (select-yes (others ms) x xs (ap not e))))
 
 -- ---- one list after the other
 drop-tl : (w : List ℕ) (i : ℕ) → drop i (tl w) ≡ drop (suc i) w
@@ -111,14 +112,14 @@ spread-append p ms (x ∷ xs) ys w = go (skips ms x) refl (λ z. spread-append p
         ∙ ap₂ (λ (r s : List ℕ). r ++ spread p ms ys s) (sym (spread-no p ms x xs w e)) (drop-rest p w (free ms xs) ∙ ap (λ (n : ℕ). drop (widthOf p * n) w) (sym f))
 
 -- numbers of which none is left out
-pub spread-run : (p : Bool) (ms : List Modulus) (f : ℕ → Bool) (x k : ℕ) (w : List ℕ) → ((y : ℕ) → x ≤ y → y < x + k → f y ≡ true → skips ms y ≡ false)
-    → (spread p ms (select f (from x k)) w ≡ run p (length (select f (from x k))) w) × (free ms (select f (from x k)) ≡ length (select f (from x k)))
-unfolding spread select from run
-spread-run p ms f x zero w h = (refl, refl)
-spread-run p ms f x (suc k) w h = go (f x) refl (λ z. spread-run p ms f (suc x) k z (λ y a b. h y (omega arith) (omega arith)))
+pub spread-row : (p : Bool) (ms : List Modulus) (f : ℕ → Bool) (x k : ℕ) (w : List ℕ) → ((y : ℕ) → x ≤ y → y < x + k → f y ≡ true → skips ms y ≡ false)
+    → (spread p ms (select f (from x k)) w ≡ row p (length (select f (from x k))) w) × (free ms (select f (from x k)) ≡ length (select f (from x k)))
+unfolding spread select from row
+spread-row p ms f x zero w h = (refl, refl)
+spread-row p ms f x (suc k) w h = go (f x) refl (λ z. spread-row p ms f (suc x) k z (λ y a b. h y (omega arith) (omega arith)))
   where
-    go : (b : Bool) → f x ≡ b → ((z : List ℕ) → (spread p ms (select f (from (suc x) k)) z ≡ run p (length (select f (from (suc x) k))) z) × (free ms (select f (from (suc x) k)) ≡ length (select f (from (suc x) k))))
-        → (spread p ms (select f (x ∷ from (suc x) k)) w ≡ run p (length (select f (x ∷ from (suc x) k))) w) × (free ms (select f (x ∷ from (suc x) k)) ≡ length (select f (x ∷ from (suc x) k)))
+    go : (b : Bool) → f x ≡ b → ((z : List ℕ) → (spread p ms (select f (from (suc x) k)) z ≡ row p (length (select f (from (suc x) k))) z) × (free ms (select f (from (suc x) k)) ≡ length (select f (from (suc x) k))))
+        → (spread p ms (select f (x ∷ from (suc x) k)) w ≡ row p (length (select f (x ∷ from (suc x) k))) w) × (free ms (select f (x ∷ from (suc x) k)) ≡ length (select f (x ∷ from (suc x) k)))
     go false e i = rw (select-no f x (from (suc x) k) e) (i w)
     go true e i =
         let n = h x (omega arith) (omega arith) e in

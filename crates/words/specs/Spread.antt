@@ -45,9 +45,9 @@ spread p ms [] w = []
 spread p ms (x ∷ xs) w = pick (skips ms x) (weightOf p 0 (spread p ms xs w)) (weightOf p (readOf p w) (spread p ms xs (restOf p w)))
 
 -- n of them in a row
-unfoldable pub run : Bool → ℕ → List ℕ → List ℕ
-run p zero w = []
-run p (suc n) w = weightOf p (readOf p w) (run p n (restOf p w))
+unfoldable pub row : Bool → ℕ → List ℕ → List ℕ
+row p zero w = []
+row p (suc n) w = weightOf p (readOf p w) (row p n (restOf p w))
 
 -- the group has `count` elements, part 1 of the message `part` places, and a word of n bytes has all the message's
 pub record Laid (a b count part n : ℕ) : Type 0 where

@@ -14,7 +14,7 @@ ghost use Rattle.layout.specs.Blocks.{plus, even, level, plusTo, evenTo};
 ghost use Rattle.folds.specs.Folds.{room};
 ghost use Rattle.words.specs.Choice.{pick};
 ghost use Rattle.words.specs.Syndrome.{syndromeOver};
-ghost use Rattle.words.specs.Spread.{spread, run, Laid};
+ghost use Rattle.words.specs.Spread.{spread, row, Laid};
 use crate::gray;
 use folds::Weights;
 use group::Element;
@@ -68,7 +68,7 @@ fn pairs(a: usize, b: usize, count: usize, part: usize, word: &[u8], v: &mut [u8
 // The weight 0 of a unit, behind p pairs, and the weights of the n pairs after it.
 fn pair_segment(word: &[u8], at: usize, v: &mut [u8], p: usize, n: usize)
     requires { ⌜ (at + 2 * n ≤ length (now word)) × (2 * p + (2 + 2 * n) ≤ length (now v)) × (length (now v) ≤ room) ⌝ }
-    ensures { λ r. ⌜ take (2 * p + (2 + 2 * n)) (now (v .exit)) ≡ take (2 * p) (now (v .entry)) ++ 0 ∷ 0 ∷ run true n (drop at (now (word .entry))) ⌝ }
+    ensures { λ r. ⌜ take (2 * p + (2 + 2 * n)) (now (v .exit)) ≡ take (2 * p) (now (v .entry)) ++ 0 ∷ 0 ∷ row true n (drop at (now (word .entry))) ⌝ }
 {
     clear(v, 2 * p);
     clear(v, 2 * p + 1);
@@ -91,7 +91,7 @@ fn clear(v: &mut [u8], k: usize)
 // the next one is not asked for, since there may be no next one.
 fn digits(word: &[u8], at: usize, v: &mut [u8], k: usize, n: usize)
     requires { ⌜ (0 < n) × (at + 2 * n ≤ length (now word)) × (k + 2 * n ≤ length (now v)) × (length (now v) ≤ room) ⌝ }
-    ensures { λ r. ⌜ take (k + (2 * n - 1)) (now (v .exit)) ≡ take k (now (v .entry)) ++ take (2 * n - 1) (run true n (drop at (now (word .entry)))) ⌝ }
+    ensures { λ r. ⌜ take (k + (2 * n - 1)) (now (v .exit)) ≡ take k (now (v .entry)) ++ take (2 * n - 1) (row true n (drop at (now (word .entry)))) ⌝ }
 {
     let m = 2 * n - 1;
     let mut i: usize = 0;
@@ -134,7 +134,7 @@ fn singles(a: usize, b: usize, count: usize, part: usize, word: &[u8], v: &mut [
 // The weight 0 of a unit, at index k, and the n bytes after it.
 fn single_segment(word: &[u8], at: usize, v: &mut [u8], k: usize, n: usize)
     requires { ⌜ (at + n ≤ length (now word)) × (k + (1 + n) ≤ length (now v)) × (length (now v) ≤ room) ⌝ }
-    ensures { λ r. ⌜ take (k + (1 + n)) (now (v .exit)) ≡ take k (now (v .entry)) ++ 0 ∷ run false n (drop at (now (word .entry))) ⌝ }
+    ensures { λ r. ⌜ take (k + (1 + n)) (now (v .exit)) ≡ take k (now (v .entry)) ++ 0 ∷ row false n (drop at (now (word .entry))) ⌝ }
 {
     clear(v, k);
     bytes(word, at, v, k + 1, n);
@@ -143,7 +143,7 @@ fn single_segment(word: &[u8], at: usize, v: &mut [u8], k: usize, n: usize)
 // n bytes as they stand.
 fn bytes(word: &[u8], at: usize, v: &mut [u8], k: usize, n: usize)
     requires { ⌜ (at + n ≤ length (now word)) × (k + n ≤ length (now v)) × (length (now v) ≤ room) ⌝ }
-    ensures { λ r. ⌜ take (k + n) (now (v .exit)) ≡ take k (now (v .entry)) ++ run false n (drop at (now (word .entry))) ⌝ }
+    ensures { λ r. ⌜ take (k + n) (now (v .exit)) ≡ take k (now (v .entry)) ++ row false n (drop at (now (word .entry))) ⌝ }
 {
     let mut i: usize = 0;
     while i < n {

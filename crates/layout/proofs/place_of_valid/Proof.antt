@@ -2,7 +2,7 @@
 use borrow.Author.Needs.{needs}
 use mathlib.Core.Path.{refl, sym, _∙_}
 use Rattle.group.specs.Group.{moduli}
-use Rattle.layout.proofs.Locate.{place-within, signed-pair}
+use Rattle.layout.proofs.Locate.{place-found, signed-pair}
 use Rattle.layout.proofs.place_of_valid.Statement.{statement}
 use Rattle.layout.proofs.place_of_valid.Tie as tie
 
@@ -20,7 +20,7 @@ returns c =
     let s = c .before .before .before in
     let g = s .args in
     let f = c .single-place .ensures in
-    place-within (moduli (g .a) (g .b)) (g .e) _ (s .pre .1) (f .0) (f .1)
+    place-found (moduli (g .a) (g .b)) (g .e) _ (s .pre .1) (f .0) (f .1)
 
 pair-place-requires : tie.Need-pair-place-requires
 pair-place-requires c κs =
@@ -33,7 +33,7 @@ returns-2 c =
     let s = c .before .before .before in
     let g = s .args in
     let f = c .pair-place .ensures in
-    place-within (moduli (g .a) (g .b)) (g .e) _ (s .pre .1) (f .0) (f .1)
+    place-found (moduli (g .a) (g .b)) (g .e) _ (s .pre .1) (f .0) (f .1)
 
 pub place-of-valid-spec : {M : Type 1} → statement M
 place-of-valid-spec =

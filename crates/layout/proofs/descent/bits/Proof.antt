@@ -3,12 +3,12 @@ use borrow.Author.Needs.{needs}
 use mathlib.Core.Path.{refl}
 use Prim.Native.Nat.{_-_}
 use native.Mathlib.Omega.{arith}
-use Rattle.layout.proofs.Descents.{Bits, bits-step, bits-end}
+use Rattle.layout.proofs.Descents.{LowBits, bits-step, bits-end}
 use Rattle.layout.proofs.descent.bits.Statement.{statement}
 use Rattle.layout.proofs.descent.bits.Tie as tie
 
 abbrev Inv-loop : tie.InvT-loop
-Inv-loop a k r₀ left₀ i₀ r left i = Bits a k r₀ r left i
+Inv-loop a k r₀ left₀ i₀ r left i = LowBits a k r₀ r left i
 
 abbrev μ-loop : tie.MeasureT-loop
 μ-loop a k r₀ left₀ i₀ r left i = a - i

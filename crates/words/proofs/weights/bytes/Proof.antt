@@ -4,21 +4,21 @@ use mathlib.Core.Bool.{false}
 use Prim.Native.Nat.{_-_}
 use native.Mathlib.Omega.{arith}
 use lib.ListN.{drop}
-use Rattle.words.specs.Spread.{run}
-use Rattle.words.proofs.Laying.{Copying, copy-start, copy-step, length-run, byte-write, bytes-done}
+use Rattle.words.specs.Spread.{row}
+use Rattle.words.proofs.Laying.{Copying, copy-start, copy-step, length-row, byte-write, bytes-done}
 use Rattle.words.proofs.weights.bytes.Statement.{statement}
 use Rattle.words.proofs.weights.bytes.Tie as tie
 use Rattle.words.proofs.weights.bytes.Reads as reads
 use Rattle.words.proofs.weights.bytes.Lts as lts
 
 abbrev Inv-loop : tie.InvT-loop
-Inv-loop word at v₀ k n i₀ v i = Copying (run false n (drop at word)) v₀ k n v i
+Inv-loop word at v₀ k n i₀ v i = Copying (row false n (drop at word)) v₀ k n v i
 
 abbrev μ-loop : tie.MeasureT-loop
 μ-loop word at v₀ k n i₀ v i = n - i
 
 loop-holds : tie.Need-loop-holds Inv-loop μ-loop
-loop-holds c = let h = c .pre in let l = length-run false (c .args .n) (drop (c .args .at) (c .args .word .now)) in copy-start _ _ _ _ (omega arith) (omega arith)
+loop-holds c = let h = c .pre in let l = length-row false (c .args .n) (drop (c .args .at) (c .args .word .now)) in copy-start _ _ _ _ (omega arith) (omega arith)
 
 add-v : tie.Need-add-v Inv-loop μ-loop
 add-v c = search needs

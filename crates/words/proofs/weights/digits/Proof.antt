@@ -4,8 +4,8 @@ use mathlib.Core.Bool.{true}
 use Prim.Native.Nat.{_-_}
 use native.Mathlib.Omega.{arith}
 use lib.ListN.{drop}
-use Rattle.words.specs.Spread.{run}
-use Rattle.words.proofs.Laying.{Copying, copy-start, copy-step, copy-done, length-run, digit-wrote}
+use Rattle.words.specs.Spread.{row}
+use Rattle.words.proofs.Laying.{Copying, copy-start, copy-step, copy-done, length-row, digit-wrote}
 use Rattle.words.proofs.weights.digits.Statement.{statement}
 use Rattle.words.proofs.weights.digits.Tie as tie
 use Rattle.words.proofs.weights.digits.Reads as reads
@@ -14,7 +14,7 @@ use Rattle.words.proofs.gray.digit.Reads as digit-reads
 use Rattle.words.proofs.weights.every_other.Reads as every-other-reads
 
 abbrev Inv-loop : tie.InvT-loop
-Inv-loop word at v₀ k n m i₀ v i = Copying (run true n (drop at word)) v₀ k m v i
+Inv-loop word at v₀ k n m i₀ v i = Copying (row true n (drop at word)) v₀ k m v i
 
 abbrev μ-loop : tie.MeasureT-loop
 μ-loop word at v₀ k n m i₀ v i = m - i
@@ -26,7 +26,7 @@ sub-m : tie.Need-sub-m Inv-loop μ-loop
 sub-m c = search needs
 
 loop-holds : tie.Need-loop-holds Inv-loop μ-loop
-loop-holds c = let h = c .before .before .pre in let l = length-run true (c .before .before .args .n) (drop (c .before .before .args .at) (c .before .before .args .word .now)) in copy-start _ _ _ _ (omega arith) (omega arith)
+loop-holds c = let h = c .before .before .pre in let l = length-row true (c .before .before .args .n) (drop (c .before .before .args .at) (c .before .before .args .word .now)) in copy-start _ _ _ _ (omega arith) (omega arith)
 
 add-digit : tie.Need-add-digit Inv-loop μ-loop
 add-digit c = search needs

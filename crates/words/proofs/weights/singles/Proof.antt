@@ -2,7 +2,7 @@
 use borrow.Author.Needs.{needs}
 use mathlib.Core.Path.{refl}
 use Prim.Native.Nat.{_+_, _-_}
-use Rattle.words.proofs.Laying.{Singling, Room, room-for, singling-start, singling-asks, singling-step, singling-end, singling-done}
+use Rattle.words.proofs.Laying.{Singling, SinglesRoom, room-for, singling-start, singling-asks, singling-step, singling-end, singling-done}
 use Rattle.words.proofs.weights.singles.Statement.{statement}
 use Rattle.words.proofs.weights.singles.Tie as tie
 use Rattle.words.proofs.weights.singles.Reads as reads
@@ -18,7 +18,7 @@ abbrev μ-loop : tie.MeasureT-loop
 μ-loop a b count part word v₀ e start n₀ at₀ i₀ v n at i = a - i
 
 -- how many weights there are of each kind
-room-at : (b : tie.Start Inv-loop μ-loop) → Room (b .args .a) (b .args .b) (b .args .count) (b .args .part) (b .args .word .now) (b .pre .0) (b .args .part + b .args .a + 1) (b .args .count - (b .args .part + b .args .a + 1))
+room-at : (b : tie.Start Inv-loop μ-loop) → SinglesRoom (b .args .a) (b .args .b) (b .args .count) (b .args .part) (b .args .word .now) (b .pre .0) (b .args .part + b .args .a + 1) (b .args .count - (b .args .part + b .args .a + 1))
 room-at b = room-for (b .args .a) (b .args .b) (b .args .count) (b .args .part) (b .args .word .now) (b .pre .0) _ _ refl refl
 
 add-e : tie.Need-add-e Inv-loop μ-loop
