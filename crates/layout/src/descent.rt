@@ -78,7 +78,6 @@ fn low_width(pairs: bool, n: u32, e: u32) -> u32
 }
 
 // The block of index k: its digit is how many blocks start at k or before, but for the first one.
-// Written as a sum over three tests, so that nothing is nested in an untaken arm.
 fn step(k: u32, low: bool, first: u32, m: u32) -> Block
     requires { ⌜ (first < 2 ^ 25) × (m < 2 ^ 25) × (k < 2 * pick low m first + m + first) ⌝ }
     ensures { λ r. ⌜ InBlock k low first m (r .digit) (r .index) (r .low) ⌝ }
