@@ -1,4 +1,4 @@
--- The weights of a word, one for each place, in an order in which their sum can be folded without a table. Assumes nothing.
+-- Weights, one for each element, in an order in which their sum can be folded without a table. Assumes nothing.
 use mathlib.Core.Path.{_≡_}
 use mathlib.Core.List.{List, [], _∷_, _++_}
 use mathlib.Core.Bool.{true, false}

@@ -205,6 +205,13 @@ pub record Singling (a b start : ℕ) (w v₀ v : List ℕ) (n at i : ℕ) : Typ
   pub wide : length v ≡ room
   pub front : take (start + n) v ≡ take start v₀ ++ spread false (moduli a b) (from 0 (2 ^ i)) w
 
+-- what its next segment asks of the bytes and of the weights, and what the bytes after the last segment ask
+abbrev pub SegmentAsks : List ℕ → List ℕ → ℕ → ℕ → ℕ → Type 0
+SegmentAsks w v start n at = (0 < n) × (at + (n - 1) ≤ length w) × (start + n + (1 + (n - 1)) ≤ length v) × (length v ≤ room) × (2 * n ≤ room)
+
+abbrev pub RestAsks : List ℕ → List ℕ → ℕ → ℕ → ℕ → ℕ → Type 0
+RestAsks w v start e n at = (n ≤ e) × (at + (e - n) ≤ length w) × (start + n + (e - n) ≤ length v) × (length v ≤ room)
+
 module _ (a b count part : ℕ) (w : List ℕ) (L : Laid a b count part (length w)) where
   components : a + b ≤ 12
   components = twelve a b (L .few)
@@ -365,7 +372,7 @@ module _ (a b count part : ℕ) (w : List ℕ) (L : Laid a b count part (length 
       }
 
   pub singling-asks : (e start : ℕ) → SinglesRoom e start → (v₀ v : List ℕ) (n at i : ℕ) → Singling a b start w v₀ v n at i → i < a
-      → (0 < n) × (at + (n - 1) ≤ length w) × (start + n + (1 + (n - 1)) ≤ length v) × (length v ≤ room) × (2 * n ≤ room)
+      → SegmentAsks w v start n at
   singling-asks e start R v₀ v n at i f h =
       let x = f .power in
       let y = f .place in
@@ -381,7 +388,7 @@ module _ (a b count part : ℕ) (w : List ℕ) (L : Laid a b count part (length 
       go n at i (2 ^ suc i) (a - suc i) (2 ^ a) (omega arith) y k r ro rf rs rb (omega arith) wd
     where
       go : (n at i q k z : ℕ) → q ≡ 2 * n → at + i + 1 ≡ n → suc i + k ≡ a → q + k ≤ z → start + e ≡ count → count ≤ room → z ≤ e → e ≤ length w + a + 1 → 0 < n → length v ≡ room
-          → (0 < n) × (at + (n - 1) ≤ length w) × (start + n + (1 + (n - 1)) ≤ length v) × (length v ≤ room) × (2 * n ≤ room)
+          → SegmentAsks w v start n at
       go n at i q k z x y l r ro rf rs rb p wd = (p, omega arith, omega arith, omega arith, omega arith)
 
   pub singling-step : (e start : ℕ) → SinglesRoom e start → (v₀ v : List ℕ) (n at i : ℕ) → Singling a b start w v₀ v n at i → i < a → (v′ : List ℕ) → length v′ ≡ length v
@@ -409,7 +416,7 @@ module _ (a b count part : ℕ) (w : List ℕ) (L : Laid a b count part (length 
 
   -- after the last unit
   pub singling-end : (e start : ℕ) → SinglesRoom e start → (v₀ v : List ℕ) (n at i : ℕ) → Singling a b start w v₀ v n at i → a ≤ i
-      → (n ≤ e) × (at + (e - n) ≤ length w) × (start + n + (e - n) ≤ length v) × (length v ≤ room)
+      → RestAsks w v start e n at
   singling-end e start R v₀ v n at i f h =
       let wi = f .within in
       let x = f .power in

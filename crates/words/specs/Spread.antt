@@ -12,8 +12,8 @@ use Rattle.folds.specs.Folds.{widest, twice}
 use Rattle.words.specs.Choice.{pick}
 use Rattle.words.specs.Digits.{digit}
 
--- of a part of the message, pairs or singles: the next weight, the bytes after it, how many bytes and how many weights it takes, its
--- slot, and the numbers of the weights
+-- of a part of the message, pairs or singles: the next weight, the bytes after it, how many bytes it takes, its slot, and the numbers
+-- of the weights: a pair has two
 abbrev pub readOf : Bool → List ℕ → ℕ
 readOf true w = digit (hd w) (hd (tl w))
 readOf false w = hd w

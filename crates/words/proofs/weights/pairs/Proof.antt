@@ -2,7 +2,7 @@
 use borrow.Author.Needs.{needs}
 use Prim.Native.Nat.{_-_}
 use native.Mathlib.Omega.{arith}
-use Rattle.words.proofs.Laying.{Pairing, pairing-start, pairing-asks, pairing-step, pairing-done}
+use Rattle.words.proofs.Laying.{Pairing, Segment, pairing-start, pairing-asks, pairing-step, pairing-done}
 use Rattle.words.proofs.weights.pairs.Statement.{statement}
 use Rattle.words.proofs.weights.pairs.Tie as tie
 use Rattle.words.proofs.weights.pairs.Reads as reads
@@ -22,68 +22,40 @@ power-requires c κs = let h = c .before .before .pre .0 .few in omega arith
 loop-holds : tie.Need-loop-holds Inv-loop μ-loop
 loop-holds c = let b = c .before .before .before in pairing-start _ _ _ _ (b .args .word .now) (b .pre .0) _ _ (c .power .ensures) (b .pre .1)
 
+-- what the next segment asks
+segment : (l : tie.In-loop Inv-loop μ-loop)
+    → let s = l .before .before .before .before .before in let v = l .before .loop in
+    Segment (s .args .a) (s .args .b) (s .args .count) (s .args .part) (s .args .word .now) (s .pre .0) (v .p) (v .e) (v .at) (v .j)
+segment l =
+    let s = l .before .before .before .before .before in
+    pairing-asks _ _ _ _ (s .args .word .now) (s .pre .0) _ _ _ _ _ (l .before .loop .inv) (l .loop-test .taken)
+
 mul-n : tie.Need-mul-n Inv-loop μ-loop
-mul-n c =
-    let l = c in
-    let S = pairing-asks _ _ _ _ (l .before .before .before .before .before .args .word .now) (l .before .before .before .before .before .pre .0) _ _ _ _ _ (l .before .loop .inv) (l .loop-test .taken) in
-    let i = l .before .loop .inv in
-    search needs
+mul-n c = let l = c in let S = segment l in let i = l .before .loop .inv in search needs
 
 add-n : tie.Need-add-n Inv-loop μ-loop
-add-n c =
-    let l = c in
-    let S = pairing-asks _ _ _ _ (l .before .before .before .before .before .args .word .now) (l .before .before .before .before .before .pre .0) _ _ _ _ _ (l .before .loop .inv) (l .loop-test .taken) in
-    let i = l .before .loop .inv in
-    search needs
+add-n c = let l = c in let S = segment l in let i = l .before .loop .inv in search needs
 
 sub-n : tie.Need-sub-n Inv-loop μ-loop
-sub-n c =
-    let l = c in
-    let S = pairing-asks _ _ _ _ (l .before .before .before .before .before .args .word .now) (l .before .before .before .before .before .pre .0) _ _ _ _ _ (l .before .loop .inv) (l .loop-test .taken) in
-    let i = l .before .loop .inv in
-    search needs
+sub-n c = let l = c in let S = segment l in let i = l .before .loop .inv in search needs
 
 pair-segment-requires : tie.Need-pair-segment-requires Inv-loop μ-loop
-pair-segment-requires c κs =
-    let l = c .before in
-    let S = pairing-asks _ _ _ _ (l .before .before .before .before .before .args .word .now) (l .before .before .before .before .before .pre .0) _ _ _ _ _ (l .before .loop .inv) (l .loop-test .taken) in
-    let i = l .before .loop .inv in
-    search needs
+pair-segment-requires c κs = let l = c .before in let S = segment l in let i = l .before .loop .inv in search needs
 
 mul-at : tie.Need-mul-at Inv-loop μ-loop
-mul-at c =
-    let l = c .before .before .before .before in
-    let S = pairing-asks _ _ _ _ (l .before .before .before .before .before .args .word .now) (l .before .before .before .before .before .pre .0) _ _ _ _ _ (l .before .loop .inv) (l .loop-test .taken) in
-    let i = l .before .loop .inv in
-    search needs
+mul-at c = let l = c .before .before .before .before in let S = segment l in let i = l .before .loop .inv in search needs
 
 add-at : tie.Need-add-at Inv-loop μ-loop
-add-at c =
-    let l = c .before .before .before .before in
-    let S = pairing-asks _ _ _ _ (l .before .before .before .before .before .args .word .now) (l .before .before .before .before .before .pre .0) _ _ _ _ _ (l .before .loop .inv) (l .loop-test .taken) in
-    let i = l .before .loop .inv in
-    search needs
+add-at c = let l = c .before .before .before .before in let S = segment l in let i = l .before .loop .inv in search needs
 
 mul-p : tie.Need-mul-p Inv-loop μ-loop
-mul-p c =
-    let l = c .before .before .before .before in
-    let S = pairing-asks _ _ _ _ (l .before .before .before .before .before .args .word .now) (l .before .before .before .before .before .pre .0) _ _ _ _ _ (l .before .loop .inv) (l .loop-test .taken) in
-    let i = l .before .loop .inv in
-    search needs
+mul-p c = let l = c .before .before .before .before in let S = segment l in let i = l .before .loop .inv in search needs
 
 add-p : tie.Need-add-p Inv-loop μ-loop
-add-p c =
-    let l = c .before .before .before .before in
-    let S = pairing-asks _ _ _ _ (l .before .before .before .before .before .args .word .now) (l .before .before .before .before .before .pre .0) _ _ _ _ _ (l .before .loop .inv) (l .loop-test .taken) in
-    let i = l .before .loop .inv in
-    search needs
+add-p c = let l = c .before .before .before .before in let S = segment l in let i = l .before .loop .inv in search needs
 
 mul-e : tie.Need-mul-e Inv-loop μ-loop
-mul-e c =
-    let l = c .before .before .before .before in
-    let S = pairing-asks _ _ _ _ (l .before .before .before .before .before .args .word .now) (l .before .before .before .before .before .pre .0) _ _ _ _ _ (l .before .loop .inv) (l .loop-test .taken) in
-    let i = l .before .loop .inv in
-    search needs
+mul-e c = let l = c .before .before .before .before in let S = segment l in let i = l .before .loop .inv in search needs
 
 add-j : tie.Need-add-j Inv-loop μ-loop
 add-j c = search needs

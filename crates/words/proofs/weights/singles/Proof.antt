@@ -2,7 +2,7 @@
 use borrow.Author.Needs.{needs}
 use mathlib.Core.Path.{refl}
 use Prim.Native.Nat.{_+_, _-_}
-use Rattle.words.proofs.Laying.{Singling, SinglesRoom, room-for, singling-start, singling-asks, singling-step, singling-end, singling-done}
+use Rattle.words.proofs.Laying.{Singling, SegmentAsks, RestAsks, SinglesRoom, room-for, singling-start, singling-asks, singling-step, singling-end, singling-done}
 use Rattle.words.proofs.weights.singles.Statement.{statement}
 use Rattle.words.proofs.weights.singles.Tie as tie
 use Rattle.words.proofs.weights.singles.Reads as reads
@@ -40,59 +40,41 @@ loop-holds c =
     let h = b .pre in
     singling-start _ _ _ _ (b .args .word .now) (b .pre .0) _ (b .args .v .now) _ (b .pre .1) (R .space) (c .before .before .clear .ensures)
 
+abbrev start-of : tie.At-loop Inv-loop μ-loop → tie.Start Inv-loop μ-loop
+start-of l = l .before .before .before .before .before .before .before
+
+-- what the next segment asks, and what the bytes after the last one ask
+segment : (l : tie.In-loop Inv-loop μ-loop)
+    → let b = start-of (l .before) in let s = l .before .loop in
+    SegmentAsks (b .args .word .now) (s .v) (b .args .count - (b .args .part + b .args .a + 1)) (s .n) (s .at)
+segment l =
+    let b = start-of (l .before) in
+    singling-asks _ _ _ _ (b .args .word .now) (b .pre .0) _ _ (room-at b) _ _ _ _ _ (l .before .loop .inv) (l .loop-test .taken)
+
+rest : (l : tie.After-loop Inv-loop μ-loop)
+    → let b = start-of (l .before) in let s = l .before .loop in let e = b .args .part + b .args .a + 1 in
+    RestAsks (b .args .word .now) (s .v) (b .args .count - e) e (s .n) (s .at)
+rest l =
+    let b = start-of (l .before) in
+    singling-end _ _ _ _ (b .args .word .now) (b .pre .0) _ _ (room-at b) _ _ _ _ _ (l .before .loop .inv) (l .loop-test .left)
+
 add-single-segment : tie.Need-add-single-segment Inv-loop μ-loop
-add-single-segment c =
-    let l = c .before in
-    let b = l .before .before .before .before .before .before .before .before in
-    let R = room-at b in
-    let S = singling-asks _ _ _ _ (b .args .word .now) (b .pre .0) _ _ R _ _ _ _ _ (l .before .loop .inv) (l .loop-test .taken) in
-    let i = l .before .loop .inv in
-    search needs
+add-single-segment c = let l = c .before in let R = room-at (start-of (l .before)) in let S = segment l in let i = l .before .loop .inv in search needs
 
 sub-single-segment : tie.Need-sub-single-segment Inv-loop μ-loop
-sub-single-segment c =
-    let l = c .before in
-    let b = l .before .before .before .before .before .before .before .before in
-    let R = room-at b in
-    let S = singling-asks _ _ _ _ (b .args .word .now) (b .pre .0) _ _ R _ _ _ _ _ (l .before .loop .inv) (l .loop-test .taken) in
-    let i = l .before .loop .inv in
-    search needs
+sub-single-segment c = let l = c .before in let R = room-at (start-of (l .before)) in let S = segment l in let i = l .before .loop .inv in search needs
 
 single-segment-requires : tie.Need-single-segment-requires Inv-loop μ-loop
-single-segment-requires c κs =
-    let l = c .before in
-    let b = l .before .before .before .before .before .before .before .before in
-    let R = room-at b in
-    let S = singling-asks _ _ _ _ (b .args .word .now) (b .pre .0) _ _ R _ _ _ _ _ (l .before .loop .inv) (l .loop-test .taken) in
-    let i = l .before .loop .inv in
-    search needs
+single-segment-requires c κs = let l = c .before in let R = room-at (start-of (l .before)) in let S = segment l in let i = l .before .loop .inv in search needs
 
 sub-at : tie.Need-sub-at Inv-loop μ-loop
-sub-at c =
-    let l = c .before .before .before .before in
-    let b = l .before .before .before .before .before .before .before .before in
-    let R = room-at b in
-    let S = singling-asks _ _ _ _ (b .args .word .now) (b .pre .0) _ _ R _ _ _ _ _ (l .before .loop .inv) (l .loop-test .taken) in
-    let i = l .before .loop .inv in
-    search needs
+sub-at c = let l = c .before .before .before .before in let R = room-at (start-of (l .before)) in let S = segment l in let i = l .before .loop .inv in search needs
 
 add-at : tie.Need-add-at Inv-loop μ-loop
-add-at c =
-    let l = c .before .before .before .before in
-    let b = l .before .before .before .before .before .before .before .before in
-    let R = room-at b in
-    let S = singling-asks _ _ _ _ (b .args .word .now) (b .pre .0) _ _ R _ _ _ _ _ (l .before .loop .inv) (l .loop-test .taken) in
-    let i = l .before .loop .inv in
-    search needs
+add-at c = let l = c .before .before .before .before in let R = room-at (start-of (l .before)) in let S = segment l in let i = l .before .loop .inv in search needs
 
 mul-n : tie.Need-mul-n Inv-loop μ-loop
-mul-n c =
-    let l = c .before .before .before .before in
-    let b = l .before .before .before .before .before .before .before .before in
-    let R = room-at b in
-    let S = singling-asks _ _ _ _ (b .args .word .now) (b .pre .0) _ _ R _ _ _ _ _ (l .before .loop .inv) (l .loop-test .taken) in
-    let i = l .before .loop .inv in
-    search needs
+mul-n c = let l = c .before .before .before .before in let R = room-at (start-of (l .before)) in let S = segment l in let i = l .before .loop .inv in search needs
 
 add-i : tie.Need-add-i Inv-loop μ-loop
 add-i c = search needs
@@ -103,35 +85,17 @@ loop-less c = search needs
 loop-again : tie.Need-loop-again Inv-loop μ-loop
 loop-again c =
     let l = c .before .before .before .before in
-    let b = l .before .before .before .before .before .before .before .before in
+    let b = start-of (l .before) in
     singling-step _ _ _ _ (b .args .word .now) (b .pre .0) _ _ (room-at b) _ _ _ _ _ (l .before .loop .inv) (l .loop-test .taken) _ (search needs) (c .before .before .single-segment .ensures)
 
 add-bytes : tie.Need-add-bytes Inv-loop μ-loop
-add-bytes c =
-    let l = c .before in
-    let b = l .before .before .before .before .before .before .before .before in
-    let R = room-at b in
-    let S = singling-end _ _ _ _ (b .args .word .now) (b .pre .0) _ _ R _ _ _ _ _ (l .before .loop .inv) (l .loop-test .left) in
-    let i = l .before .loop .inv in
-    search needs
+add-bytes c = let l = c .before in let R = room-at (start-of (l .before)) in let S = rest l in let i = l .before .loop .inv in search needs
 
 sub-bytes : tie.Need-sub-bytes Inv-loop μ-loop
-sub-bytes c =
-    let l = c .before in
-    let b = l .before .before .before .before .before .before .before .before in
-    let R = room-at b in
-    let S = singling-end _ _ _ _ (b .args .word .now) (b .pre .0) _ _ R _ _ _ _ _ (l .before .loop .inv) (l .loop-test .left) in
-    let i = l .before .loop .inv in
-    search needs
+sub-bytes c = let l = c .before in let R = room-at (start-of (l .before)) in let S = rest l in let i = l .before .loop .inv in search needs
 
 bytes-requires : tie.Need-bytes-requires Inv-loop μ-loop
-bytes-requires c κs =
-    let l = c .before in
-    let b = l .before .before .before .before .before .before .before .before in
-    let R = room-at b in
-    let S = singling-end _ _ _ _ (b .args .word .now) (b .pre .0) _ _ R _ _ _ _ _ (l .before .loop .inv) (l .loop-test .left) in
-    let i = l .before .loop .inv in
-    search needs
+bytes-requires c κs = let l = c .before in let R = room-at (start-of (l .before)) in let S = rest l in let i = l .before .loop .inv in search needs
 
 same-length : tie.Need-same-length Inv-loop μ-loop
 same-length c = search needs
@@ -139,7 +103,7 @@ same-length c = search needs
 returns : tie.Need-returns Inv-loop μ-loop
 returns c =
     let l = c .before .before .before .before in
-    let b = l .before .before .before .before .before .before .before .before in
+    let b = start-of (l .before) in
     singling-done _ _ _ _ (b .args .word .now) (b .pre .0) _ _ (room-at b) _ _ _ _ _ _ (l .before .before .before .before .clear .ensures) (l .before .loop .inv) (l .loop-test .left) _ (c .before .before .bytes .ensures)
 
 pub singles-spec : {M : Type 1} → statement M
