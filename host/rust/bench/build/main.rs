@@ -10,7 +10,8 @@ use std::process::Command;
 
 const FLAGS: [&str; 2] = ["-std=c99", "-O3"];
 /// Where the code of the program by tables stands, see `copies::place`. Its times move too: of the
-/// offsets that a linker can choose this was the quickest when they were tried.
+/// offsets that a linker can choose this was the quickest when they were tried, for every call but
+/// the third place (docs/DECISIONS.md).
 const TABLES_AT: usize = 48;
 
 fn main() {
