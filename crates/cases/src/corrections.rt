@@ -81,7 +81,7 @@ pub(crate) fn outputs() {
 
 pub(crate) fn run() {
     text(b"one record through good, bad and refused words\n");
-    let opened = coder::open(3, 2).record;
+    let opened = coder::open(3, 2, 0).record;
     let first = correct(opened, b"0001110", 7);
     encode(first, b"1010", 7);
     let second = correct(first, b"0000011", 7);

@@ -11,7 +11,7 @@ fn open(t: u32, r: u32) {
     number(t);
     number(r);
     text(b":");
-    let o = coder::open(t, r);
+    let o = coder::open(t, r, 0);
     number(o.refusal);
     record(o.record);
     text(b"\n");
@@ -23,7 +23,7 @@ fn layout(t: u32, r: u32) {
     number(t);
     number(r);
     text(b":");
-    let o = coder::open(t, r);
+    let o = coder::open(t, r, 0);
     let code = o.record;
     elements(code, coder::word_length(code));
     text(b"\n");

@@ -15,7 +15,7 @@ use coder::Record;
 // The README's example.
 pub(crate) fn example() {
     text(b"example\n");
-    let code = coder::open(3, 2).record;
+    let code = coder::open(3, 2, 0).record;
     let mut word = [0u8; 7];
     coder::encode(code, &[1, 0, 1, 0], &mut word);
     let message = coder::read_message(code, &word);

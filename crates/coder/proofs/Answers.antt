@@ -1,35 +1,60 @@
 -- What opening, the layout call and the lengths answer, by the reasons that apply: what the proofs of the calls cite. Assumes nothing.
-use mathlib.Core.Path.{_≡_, refl, ap, ap₂, _∙_}
+use mathlib.Core.Path.{_≡_, refl, sym, ap, ap₂, _∙_}
 use mathlib.Core.Logic.{_⊎_, inl, inr, _≢_}
 use mathlib.Core.List.{List, [], _∷_}
-use mathlib.Core.Bool.{Bool, true, false, _&&_, _||_, not}
-use Prim.Native.Nat.{ℕ, zero, suc, _≤_, _<_}
+use mathlib.Core.Bool.{Bool, true, false, _||_, not}
+use Prim.Native.Nat.{ℕ, zero, suc, _+_, _-_, _≤_, _<_}
+use native.Mathlib.Omega.{arith}
 use lib.Dec.{eqb, ltb}
 use borrow.Author.Tests.{eq-eqb, ne-eqb, lt-ltb, le-ltb}
 use Rattle.group.specs.Group.{number}
 use Rattle.layout.specs.Parameters.{admits}
 use Rattle.layout.specs.Calls.{shapeFor, elementFor}
+use Rattle.layout.specs.Layout as layout
 use Rattle.layout.specs.declared.Shape.{Shape}
 use Rattle.layout.proofs.Parameters.{Known, known-for, moduli-known, element-for}
-use Rattle.coder.specs.State.{fresh, isClosed, isUnfit, isFit, placesIn, messageIn, elementIn}
-use Rattle.coder.specs.Reasons.{Reason, accepted, firstReason, notAdmitted, outside}
-use Rattle.coder.specs.Calls.{ifAccepted, stateReasons, inForce, opened, layoutReasons, refusedElement, elementAt, ifFit}
+use Rattle.shortened.specs.Allowed.{allows}
+use Rattle.shortened.specs.Code as shortened
+use Rattle.shortened.proofs.Filling.{old-sum}
+use Rattle.coder.specs.State.{fresh, isClosed, isUnfit, isNotAllowed, isUsable, moduliIn, placesIn, messageIn, elementIn}
+use Rattle.coder.specs.Reasons.{Reason, accepted, firstReason, notAdmitted, notAllowed, outside}
+use Rattle.coder.specs.Calls.{ifAccepted, stateReasons, inForce, openReasons, opened, layoutReasons, refusedElement, elementAt, ifUsable}
 use Rattle.coder.specs.declared.Record.{Record}
+use Rattle.coder.specs.declared.Opened.{Opened}
 use Rattle.coder.specs.declared.ElementAnswer.{ElementAnswer}
 use Rattle.coder.proofs.Firsts.{first-yes, first-no, first-end}
-use Rattle.coder.proofs.States.{state-number, state-past, true-fit}
+use Rattle.coder.proofs.States.{Open, state-number, state-past, true-usable}
 
 abbrev numberOf : Reason → ℕ
 numberOf x = x .number
 
 -- ---- opening
-pub opened-yes : (t r : ℕ) → admits t (inForce t r) ≡ true → opened t r ≡ record { refusal = 0; «record» = fresh t (inForce t r) }
+-- by its number
+pub opened-refused : (t r s n : ℕ) → n ≡ firstReason (openReasons t r s) .number → n ≢ 0 → opened t r s ≡ record { refusal = n; «record» = fresh 0 0 0 }
 unfolding opened
-opened-yes t r h = rw (first-no (notAdmitted t (inForce t r)) [] (ap not h), first-end)
+opened-refused t r s n e h = rw (← e) (ap {B = Opened} (λ (x : Record). record { refusal = n; «record» = x }) (go n h))
+  where
+    go : (n : ℕ) → n ≢ 0 → ifAccepted n (fresh t (inForce t r) s) (fresh 0 0 0) ≡ fresh 0 0 0
+    go zero h = absurd (h refl)
+    go (suc n) h = refl
 
-pub opened-no : (t r : ℕ) → admits t (inForce t r) ≡ false → opened t r ≡ record { refusal = 1; «record» = fresh 0 0 }
+pub opened-accepted : (t r s n : ℕ) → n ≡ firstReason (openReasons t r s) .number → n ≡ 0 → opened t r s ≡ record { refusal = n; «record» = fresh t (inForce t r) s }
 unfolding opened
-opened-no t r h = rw (first-yes (notAdmitted t (inForce t r)) [] (ap not h))
+opened-accepted t r s n e z = rw (← e, z)
+
+pub opened-yes : (t r s : ℕ) → admits t (inForce t r) ≡ true → allows t (inForce t r) s ≡ true
+    → opened t r s ≡ record { refusal = 0; «record» = fresh t (inForce t r) s }
+unfolding opened
+opened-yes t r s h k = rw (first-no (notAdmitted t (inForce t r)) (notAllowed t (inForce t r) s ∷ []) (ap not h), first-no (notAllowed t (inForce t r) s) [] (ap not k), first-end)
+
+pub opened-not-allowed : (t r s : ℕ) → admits t (inForce t r) ≡ true → allows t (inForce t r) s ≡ false
+    → opened t r s ≡ record { refusal = 10; «record» = fresh 0 0 0 }
+unfolding opened
+opened-not-allowed t r s h k = rw (first-no (notAdmitted t (inForce t r)) (notAllowed t (inForce t r) s ∷ []) (ap not h), first-yes (notAllowed t (inForce t r) s) [] (ap not k))
+
+pub opened-no : (t r s : ℕ) → admits t (inForce t r) ≡ false → opened t r s ≡ record { refusal = 1; «record» = fresh 0 0 0 }
+unfolding opened
+opened-no t r s h = rw (first-yes (notAdmitted t (inForce t r)) (notAllowed t (inForce t r) s ∷ []) (ap not h))
 
 -- ---- the layout
 -- the answer is the refusal's, or the element, by the first reason's number
@@ -67,7 +92,7 @@ outside-yes rec p (inr l) = ap (λ (b : Bool). eqb p 0 || b) (lt-ltb (placesIn r
     or-true true = refl
     or-true false = refl
 
-module _ (rec : Record) (f : (isClosed rec ≡ false) × (isUnfit rec ≡ false)) where
+module _ (rec : Record) (f : Open rec) where
   pub element-outside : (p : ℕ) → (p ≡ 0) ⊎ (placesIn rec < p) → elementAt rec p ≡ refusedElement 5
   element-outside p h =
       element-by rec p (outside rec p) (state-past rec (outside rec p ∷ []) f ∙ first-yes (outside rec p) [] (outside-yes rec p h))
@@ -80,34 +105,43 @@ module _ (rec : Record) (f : (isClosed rec ≡ false) × (isUnfit rec ≡ false)
       ∙ first-end)
 
 -- ---- what the layout crate answers for an open and fit record is the record's
-module _ (rec : Record) (f : (isClosed rec ≡ false) × (isUnfit rec ≡ false)) (s : Shape) (e : s ≡ shapeFor (rec .t) (rec .r)) where
+module _ (rec : Record) (f : Open rec) (s : Shape) (e : s ≡ shapeFor (rec .t) (rec .r)) where
   pub shape-known : Known (rec .t) (rec .r) s
-  shape-known = known-for (rec .t) (rec .r) s e (true-fit rec (f .1) .admitted)
+  shape-known = known-for (rec .t) (rec .r) s e (true-usable rec (f .1) (f .2) .fit .admitted)
 
-  pub shape-places : s .places ≡ placesIn rec
+  pub shape-places : s .places - rec .s ≡ placesIn rec
   unfolding placesIn
-  shape-places = shape-known .places
+  shape-places = ap (λ (n : ℕ). n - rec .s) (shape-known .places)
 
-  pub shape-message : s .message ≡ messageIn rec
+  pub shape-message : s .message - rec .s ≡ messageIn rec
   unfolding messageIn
-  shape-message = shape-known .message
+  shape-message = ap (λ (n : ℕ). n - rec .s) (shape-known .message)
 
-  pub shape-element : (p : ℕ) (x : List ℕ) → x ≡ elementFor (rec .t) (rec .r) p → number (Rattle.group.specs.Group.moduli (s .a) (s .b)) x ≡ elementIn rec p
-  unfolding elementIn
-  shape-element p x h =
-      ap₂ number (moduli-known (rec .t) (rec .r) s shape-known) (h ∙ element-for (rec .t) (rec .r) p (shape-known .admitted))
+  -- and s is less than both
+  pub shape-still : (rec .s ≤ s .places) × (rec .s ≤ s .message)
+  shape-still =
+      let st = true-usable rec (f .1) (f .2) .allowed .stays in
+      let k = shape-known in
+      (omega (arith, k .places), omega (arith, k .message))
+
+  pub shape-element : (p : ℕ) (x : List ℕ) → p ≢ 0 → x ≡ elementFor (rec .t) (rec .r) (p + rec .s) → number (Rattle.group.specs.Group.moduli (s .a) (s .b)) x ≡ elementIn rec p
+  unfolding elementIn shortened.elementAt
+  shape-element p x n h =
+      ap₂ number (moduli-known (rec .t) (rec .r) s shape-known)
+      (h ∙ element-for (rec .t) (rec .r) (p + rec .s) (shape-known .admitted) ∙ ap (layout.elementAt (moduliIn rec)) (sym (old-sum (rec .s) p n)))
 
 -- ---- lengths
-if-fit : (rec : Record) (n : ℕ) (b : Bool) → isFit rec ≡ b → ifFit rec n ≡ elim b as (λ _. ℕ) [ true ↦ n | false ↦ 0 ]
-if-fit rec n b e = ap (λ (b : Bool). elim b as (λ _. ℕ) [ true ↦ n | false ↦ 0 ]) e
+if-usable : (rec : Record) (n : ℕ) (b : Bool) → isUsable rec ≡ b → ifUsable rec n ≡ elim b as (λ _. ℕ) [ true ↦ n | false ↦ 0 ]
+if-usable rec n b e = ap (λ (b : Bool). elim b as (λ _. ℕ) [ true ↦ n | false ↦ 0 ]) e
 
-pub fit-length : (rec : Record) (n : ℕ) → (isClosed rec ≡ false) × (isUnfit rec ≡ false) → ifFit rec n ≡ n
-fit-length rec n f = if-fit rec n true (ap₂ (λ (a b : Bool). not a && not b) (f .0) (f .1))
+pub usable-length : (rec : Record) (n : ℕ) → Open rec → ifUsable rec n ≡ n
+usable-length rec n f = if-usable rec n true (rw (f .0, f .1, f .2))
 
-pub unfit-length : (rec : Record) (n k : ℕ) → k ≡ firstReason (stateReasons rec) .number → k ≢ 0 → ifFit rec n ≡ 0
-unfit-length rec n k e h = go (isClosed rec) refl (isUnfit rec) refl
+pub unusable-length : (rec : Record) (n k : ℕ) → k ≡ firstReason (stateReasons rec) .number → k ≢ 0 → ifUsable rec n ≡ 0
+unusable-length rec n k e h = go (isClosed rec) refl (isUnfit rec) refl (isNotAllowed rec) refl
   where
-    go : (a : Bool) → isClosed rec ≡ a → (b : Bool) → isUnfit rec ≡ b → ifFit rec n ≡ 0
-    go true x b y = if-fit rec n false (ap (λ (a : Bool). not a && not (isUnfit rec)) x)
-    go false x true y = if-fit rec n false (ap₂ (λ (a b : Bool). not a && not b) x y)
-    go false x false y = absurd (h (e ∙ ap numberOf (state-past rec [] (x, y) ∙ first-end)))
+    go : (a : Bool) → isClosed rec ≡ a → (b : Bool) → isUnfit rec ≡ b → (d : Bool) → isNotAllowed rec ≡ d → ifUsable rec n ≡ 0
+    go true x b y d z = if-usable rec n false (rw x)
+    go false x true y d z = if-usable rec n false (rw (x, y))
+    go false x false y true z = if-usable rec n false (rw (x, y, z))
+    go false x false y false z = absurd (h (e ∙ ap numberOf (state-past rec [] (x, y, z) ∙ first-end)))

@@ -1,6 +1,6 @@
 -- Bounds on the lengths, on the refusals and on the places that are told, for callers that add them up or tell them as signed numbers.
 -- Assumes nothing.
-use mathlib.Core.Path.{_≡_, refl}
+use mathlib.Core.Path.{_≡_, refl, ap}
 use mathlib.Core.Bool.{Bool, true, false, _&&_, not}
 use mathlib.Core.List.{List, [], _∷_}
 use Prim.Native.Nat.{ℕ, _-_, _^_, _≤_, _<_}
@@ -11,36 +11,37 @@ use lib.ListN.{length}
 use borrow.Author.Tests.{ltb-true, eqb-false}
 use Rattle.layout.specs.Parameters.{longest}
 use Rattle.words.specs.Syndrome.{lengthOf}
-use Rattle.words.proofs.Theorem.{code, length-code}
-use Rattle.coder.specs.State.{Fit, isClosed, isUnfit, isFit, placesIn, moduliIn, correctedPlaceIn}
+use Rattle.words.proofs.Theorem.{length-code}
+use Rattle.coder.specs.State.{Usable, isClosed, isUnfit, isNotAllowed, isUsable, placesIn, moduliIn, correctedPlaceIn}
 use Rattle.coder.specs.Reasons.{Reason, firstReason}
 use Rattle.coder.specs.Calls.{wordLength, opened, openReasons, encodeReasons, encodeAnswer, correctReasons, correctAnswer}
 use Rattle.coder.specs.Calls.{combineReasons, combineAnswer, thirdReasons, thirdAnswer}
 use Rattle.coder.specs.declared.Record.{Record}
 use Rattle.coder.proofs.Firsts.{first-yes, first-no, first-end, accepted-none}
-use Rattle.coder.proofs.States.{true-fit}
+use Rattle.coder.proofs.States.{true-usable}
 use Rattle.coder.proofs.Outcomes.{inside-by}
-use Rattle.coder.proofs.Corrections.{correct-accepted}
-use Rattle.coder.proofs.Triples.{thirds}
+use Rattle.coder.proofs.Corrections.{correct-accepted, nearest-in}
+use Rattle.coder.proofs.Triples.{thirds-shortened}
 
 -- ---- lengths
-pub places-bound : (rec : Record) → Fit rec → placesIn rec < 2 ^ longest
+pub places-bound : (rec : Record) → Usable rec → placesIn rec < 2 ^ longest
 unfolding placesIn
 places-bound rec f =
-    let q : 2 ^ (rec .t) ≤ 2 ^ longest = pow-mono {i = rec .t} {j = longest} (f .admitted .most) in
+    let q : 2 ^ (rec .t) ≤ 2 ^ longest = pow-mono {i = rec .t} {j = longest} (f .fit .admitted .most) in
     omega arith
 
 pub word-length-bound : (rec : Record) → wordLength rec < 2 ^ longest
 unfolding wordLength
-word-length-bound rec = go (isFit rec) refl
+word-length-bound rec = go (isUsable rec) refl
   where
-    both-false : (a b : Bool) → (not a && not b) ≡ true → b ≡ false
-    both-false a false e = refl
-    both-false true true e = absurd (mathlib.Core.Bool.false≢true e)
-    both-false false true e = absurd (mathlib.Core.Bool.false≢true e)
+    both-false : (a b d : Bool) → (not a && (not b && not d)) ≡ true → (b ≡ false) × (d ≡ false)
+    both-false false false false e = (refl, refl)
+    both-false false false true e = absurd (mathlib.Core.Bool.false≢true e)
+    both-false false true d e = absurd (mathlib.Core.Bool.false≢true e)
+    both-false true b d e = absurd (mathlib.Core.Bool.false≢true e)
 
-    go : (b : Bool) → isFit rec ≡ b → elim b as (λ _. ℕ) [ true ↦ placesIn rec | false ↦ 0 ] < 2 ^ longest
-    go true e = places-bound rec (true-fit rec (both-false (isClosed rec) (isUnfit rec) e))
+    go : (b : Bool) → isUsable rec ≡ b → elim b as (λ _. ℕ) [ true ↦ placesIn rec | false ↦ 0 ] < 2 ^ longest
+    go true e = let k = both-false (isClosed rec) (isUnfit rec) (isNotAllowed rec) e in places-bound rec (true-usable rec (k .0) (k .1))
     go false e = omega arith
 
 -- ---- refusals
@@ -63,9 +64,9 @@ first-below k (x ∷ xs) e = go (first-below k xs) (ltb (x .number) k) refl e (x
 abbrev pub numbers : ℕ
 numbers = 24
 
-pub open-refusal : (t r : ℕ) → opened t r .refusal < numbers
+pub open-refusal : (t r s : ℕ) → opened t r s .refusal < numbers
 unfolding opened
-open-refusal t r = first-below numbers (openReasons t r) refl
+open-refusal t r s = first-below numbers (openReasons t r s) refl
 
 pub encode-refusal : (rec : Record) (m out : List ℕ) → encodeAnswer rec m out .refusal < numbers
 unfolding encodeAnswer
@@ -84,15 +85,18 @@ unfolding thirdAnswer
 third-refusal rec i j = first-below numbers (thirdReasons rec i j) refl
 
 -- ---- the places that an accepted call tells
-length-bound : (rec : Record) → Fit rec → lengthOf (moduliIn rec) < 2 ^ longest
+length-bound : (rec : Record) → Usable rec → lengthOf (moduliIn rec) < 2 ^ longest
 unfolding placesIn
-length-bound rec f = rw (length-code (rec .t) (rec .r) (f .admitted)) (places-bound rec f)
+length-bound rec f =
+    let q : 2 ^ (rec .t) ≤ 2 ^ longest = pow-mono {i = rec .t} {j = longest} (f .fit .admitted .most) in
+    let n = length-code (rec .t) (rec .r) (f .fit .admitted) in
+    omega arith
 
 pub correct-place : (rec : Record) (w out : List ℕ) → correctAnswer rec w out .refusal ≡ 0 → correctAnswer rec w out .place < 2 ^ longest
 unfolding correctAnswer correctedPlaceIn placesIn
 correct-place rec w out e =
     let a = correct-accepted rec w out e in
-    let k = code (rec .t) (rec .r) (a .0 .admitted) .perfect w (a .1) .within in
+    let k = nearest-in rec w (a .0) (a .1) .within in
     let b = length-bound rec (a .0) in
     rw e (omega arith)
 
@@ -100,9 +104,10 @@ pub third-place : (rec : Record) (i j : ℕ) → thirdAnswer rec i j .refusal �
 unfolding thirdAnswer
 third-place rec i j e =
     let h = accepted-none (thirdReasons rec i j) refl e in
-    let f = true-fit rec (h .1 .0) in
-    let a = inside-by rec i (h .1 .1 .0) in
-    let b = inside-by rec j (h .1 .1 .1 .0) in
-    let k = thirds rec i j f (a .0) (a .1) (b .0) (b .1) (eqb-false i j (h .1 .1 .1 .1 .0)) .makes .most in
+    let f = true-usable rec (h .1 .0) (h .1 .1 .0) in
+    let a = inside-by rec i (h .1 .1 .1 .0) in
+    let b = inside-by rec j (h .1 .1 .1 .1 .0) in
+    let p = thirdAnswer rec i j .place in
+    let k = thirds-shortened rec i j f (a .0) (a .1) (b .0) (b .1) (eqb-false i j (h .1 .1 .1 .1 .1 .0)) .some p .0 (ap (λ (x : ℕ). record { refusal = x; place = p }) e) .most in
     let l = length-bound rec f in
     omega arith

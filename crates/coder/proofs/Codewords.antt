@@ -1,10 +1,10 @@
 -- Of an open and fit record: the codeword test says yes exactly of the codewords, and reading shows the message of exactly those.
 -- Assumes nothing.
-use mathlib.Core.Path.{_≡_, refl, sym, ap, _∙_}
+use mathlib.Core.Path.{_≡_, refl, sym, ap, subst, _∙_}
 use mathlib.Core.Logic.{_≢_, _↔_}
 use mathlib.Core.List.{List, []}
 use mathlib.Core.Bool.{Bool, true, false}
-use Prim.Native.Nat.{ℕ}
+use Prim.Native.Nat.{ℕ, _-_}
 use native.Mathlib.Omega.{arith}
 use borrow.Author.Tests.{eqb-true, not-false}
 use lib.Dec.{eqb}
@@ -15,37 +15,40 @@ use Rattle.words.specs.Words.{Word}
 use Rattle.words.specs.Syndrome.{syndrome, lengthOf}
 use Rattle.words.proofs.Reading.{valid-syndrome}
 use Rattle.words.proofs.Theorem.{length-code}
-use Rattle.coder.specs.State.{Fit, moduliIn, placesIn, CodewordIn, isCodewordIn}
+use Rattle.shortened.specs.Code.{fill}
+use Rattle.shortened.proofs.Filling.{fill-word}
+use Rattle.coder.specs.State.{Usable, moduliIn, placesIn, CodewordIn, isCodewordIn}
 use Rattle.coder.specs.Reasons.{badPlace}
 use Rattle.coder.specs.Calls.{wordReasons, codewordAnswer, shown}
 use Rattle.coder.specs.declared.Record.{Record}
 use Rattle.coder.specs.declared.TestAnswer.{TestAnswer}
 use Rattle.coder.proofs.Firsts.{accepted-none}
+use Rattle.coder.proofs.States.{filled-in}
 use Rattle.coder.proofs.Bytes.{none-bits}
 use Rattle.coder.proofs.Outcomes.{says-yes, shown-no}
 use Rattle.coder.proofs.Accepted.{codeword-accepts, reading-accepts}
 
-module _ (rec : Record) (f : Fit rec) (w : List ℕ) where
-  -- n is the length of a word of the code
-  length-in : lengthOf (moduliIn rec) ≡ placesIn rec
+module _ (rec : Record) (f : Usable rec) (w : List ℕ) where
+  -- a filled word of the whole code is of the record's length without the s zeros
+  shortened-word : Word (lengthOf (moduliIn rec)) (fill (rec .s) w) → Word (placesIn rec) w
   unfolding placesIn
-  length-in = length-code (rec .t) (rec .r) (f .admitted)
+  shortened-word h = subst (λ (n : ℕ). Word (n - rec .s) w) (length-code (rec .t) (rec .r) (f .fit .admitted)) (fill-word (lengthOf (moduliIn rec)) (rec .s) h)
 
   to : codewordAnswer rec w .yes ≡ true → CodewordIn rec w
   unfolding isCodewordIn
   to e =
       let y = says-yes rec w e in
       let h = accepted-none (wordReasons rec w) refl (y .0) in
-      let l = eqb-true (length w) (placesIn rec) (not-false (eqb (length w) (placesIn rec)) (h .1 .1 .0)) in
-      let b = eqb-true (badPlace w) 0 (not-false (eqb (badPlace w) 0) (h .1 .1 .1 .0)) in
+      let l = eqb-true (length w) (placesIn rec) (not-false (eqb (length w) (placesIn rec)) (h .1 .1 .1 .0)) in
+      let b = eqb-true (badPlace w) 0 (not-false (eqb (badPlace w) 0) (h .1 .1 .1 .1 .0)) in
       let ms = moduliIn rec in
       record {
-        isWord = record { places = l ∙ sym length-in; bits = none-bits 0 w b };
-        isZero = allZero-zeros ms (syndrome ms w) (valid-syndrome ms w) (y .1);
+        isWord = filled-in rec f (record { places = l; bits = none-bits 0 w b });
+        isZero = allZero-zeros ms (syndrome ms (fill (rec .s) w)) (valid-syndrome ms (fill (rec .s) w)) (y .1);
       }
 
   pub word-of : CodewordIn rec w → Word (placesIn rec) w
-  word-of c = record { places = c .isWord .places ∙ length-in; bits = c .isWord .bits }
+  word-of c = shortened-word (c .isWord)
 
   pub zero-of : CodewordIn rec w → isCodewordIn rec w ≡ true
   unfolding isCodewordIn

@@ -1,26 +1,27 @@
 -- Demand 2 of the calls: encoding writes the one codeword that begins with the message, and reading it shows the message. Assumes nothing.
-use mathlib.Core.Path.{_≡_, sym, ap, _∙_}
+use mathlib.Core.Path.{_≡_, sym, ap, ap₂, _∙_}
 use mathlib.Core.List.{List, _++_}
-use Prim.Native.Nat.{ℕ, _≤_}
+use Prim.Native.Nat.{ℕ, _-_, _≤_}
 use native.Mathlib.Omega.{arith}
 use lib.ListN.{length, take, drop}
 use lib.Seq.{take-append-le}
 use Rattle.layout.specs.Parameters.{messageOf}
 use Rattle.words.specs.Words.{Word}
-use Rattle.words.specs.Claims.{EncodingOf}
-use Rattle.words.proofs.Theorem.{length-message-code, code}
-use Rattle.coder.specs.State.{Fit, RecordOf, moduliIn, placesIn, messageIn, CodewordIn, encodedIn}
+use Rattle.words.proofs.Theorem.{length-message-code}
+use Rattle.shortened.specs.Claims.{EncodingOf}
+use Rattle.coder.specs.State.{Usable, RecordOf, moduliIn, placesIn, messageIn, CodewordIn, encodedIn}
 use Rattle.coder.specs.Calls.{encodeOutput, shown}
 use Rattle.coder.specs.Claims.{Encodes}
 use Rattle.coder.specs.declared.Record.{Record}
+use Rattle.coder.proofs.States.{usable-of, code-in}
 use Rattle.coder.proofs.Accepted.{front, encode-accepts, reading-accepts}
 use Rattle.coder.proofs.Codewords.{word-of, zero-of}
 
-module _ (rec : Record) (m out : List ℕ) (f : Fit rec) (h : Word (messageIn rec) m) (l : placesIn rec ≤ length out) where
+module _ (rec : Record) (m out : List ℕ) (f : Usable rec) (h : Word (messageIn rec) m) (l : placesIn rec ≤ length out) where
   -- what is written begins with the encoding
-  encoding : EncodingOf (moduliIn rec) m
+  encoding : EncodingOf (moduliIn rec) (rec .s) m
   unfolding messageIn
-  encoding = code (rec .t) (rec .r) (f .admitted) .encodes m h
+  encoding = code-in rec f .encodes m h
 
   codeword : CodewordIn rec (encodedIn rec m)
   unfolding encodedIn
@@ -40,7 +41,7 @@ module _ (rec : Record) (m out : List ℕ) (f : Fit rec) (h : Word (messageIn re
   -- a message is shorter than a word, so it is met within what is written
   begins : take (messageIn rec) (encodedIn rec m) ≡ m
   unfolding messageIn encodedIn
-  begins = ap (λ (n : ℕ). take n (encodedIn rec m)) (sym (length-message-code (rec .t) (rec .r) (f .admitted))) ∙ encoding .begins
+  begins = ap (λ (n : ℕ). take (n - rec .s) (encodedIn rec m)) (sym (length-message-code (rec .t) (rec .r) (f .fit .admitted))) ∙ encoding .begins
 
   shorter : messageIn rec ≤ length (encodedIn rec m)
   unfolding messageIn placesIn
@@ -49,16 +50,16 @@ module _ (rec : Record) (m out : List ℕ) (f : Fit rec) (h : Word (messageIn re
   only : (c : List ℕ) → CodewordIn rec c → take (messageIn rec) c ≡ m → c ≡ encodedIn rec m
   unfolding messageIn encodedIn
   only c k e =
-      encoding .only c k (ap (λ (n : ℕ). take n c) (length-message-code (rec .t) (rec .r) (f .admitted)) ∙ e)
+      encoding .only c k (ap (λ (n : ℕ). take (n - rec .s) c) (length-message-code (rec .t) (rec .r) (f .fit .admitted)) ∙ e)
 
   -- another record of the same code
-  shows : (other : Record) → RecordOf (rec .t) (rec .r) other → shown other (encodedIn rec m) ≡ m
+  shows : (other : Record) → RecordOf (rec .t) (rec .r) (rec .s) other → shown other (encodedIn rec m) ≡ m
   unfolding messageIn
   shows other o =
-      let g = o .fit in
-      let c : CodewordIn other (encodedIn rec m) = rw (o .isT, o .isR) codeword in
+      let g = usable-of (rec .t) (rec .r) (rec .s) other (f .allowed) o in
+      let c : CodewordIn other (encodedIn rec m) = rw (o .isT, o .isR, o .isS) codeword in
       reading-accepts other (encodedIn rec m) g (word-of other g (encodedIn rec m) c) (zero-of other g (encodedIn rec m) c) .0
-      ∙ ap (λ (n : ℕ). take (messageOf n) (encodedIn rec m)) (o .isT) ∙ begins
+      ∙ ap₂ (λ (n k : ℕ). take (messageOf n - k) (encodedIn rec m)) (o .isT) (o .isS) ∙ begins
 
   pub encodes : Encodes rec m out
   encodes =

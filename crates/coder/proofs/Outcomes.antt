@@ -3,7 +3,7 @@ use mathlib.Core.Path.{_≡_, refl, sym, ap, ap₂, _∙_}
 use mathlib.Core.Logic.{_≢_, _⊎_, inl, inr, ⊎-elim}
 use mathlib.Core.List.{List, [], _∷_, _++_}
 use mathlib.Core.Bool.{Bool, true, false, _||_, not, false≢true}
-use Prim.Native.Nat.{ℕ, zero, suc, _+_, _≤_}
+use Prim.Native.Nat.{ℕ, zero, suc, _+_, _-_, _≤_}
 use native.Mathlib.Omega.{arith}
 use borrow.Author.Tests.{eqb-true, eq-eqb, ne-eqb, le-leb, ltb-false, eqb-false, not-false}
 use lib.Dec.{eqb, ltb}
@@ -13,18 +13,22 @@ use Rattle.group.specs.Sign.{allZero}
 use Rattle.layout.specs.Parameters.{placesOf}
 use Rattle.layout.specs.Calls.{shapeFor}
 use Rattle.layout.specs.declared.Shape.{Shape}
-use Rattle.layout.proofs.Parameters.{admitted-admits, known-for, moduli-known}
-use Rattle.words.specs.Calls.{syndromeFor, isPlace, thirdFor}
-use Rattle.coder.specs.State.{Fit, isClosed, isUnfit, placesIn, messageIn, syndromeIn, numberIn, isCodewordIn, thirdIn}
-use Rattle.coder.specs.Reasons.{Reason, firstReason, outside, wrongLength, shortOutput, badPlace, badByte}
+use Rattle.layout.proofs.Parameters.{known-for, moduli-known}
+use Rattle.shortened.specs.Code.{isLeftOut}
+use Rattle.shortened.specs.Code as shortened
+use Rattle.shortened.specs.Calls.{Fits, syndromeFor, isPlace, thirdFor}
+use Rattle.shortened.proofs.Guards.{both-allowed, fits-word}
+use Rattle.coder.specs.State.{Usable, placesIn, messageIn, syndromeIn, numberIn, isCodewordIn, thirdIn, thirdOldPlaceIn}
+use Rattle.coder.specs.Reasons.{Reason, firstReason, leftOut, outside, wrongLength, shortOutput, badPlace, badByte}
 use Rattle.coder.specs.Calls.{ifAccepted, stateReasons, wordLength, messageLength, wordReasons, answerOf, syndromeAnswer, codewordAnswer, shown, writeReasons}
-use Rattle.coder.specs.Calls.{thirdReasons, thirdAnswer}
+use Rattle.coder.specs.Calls.{placesReasons, thirdReasons, thirdAnswer}
 use Rattle.coder.specs.declared.Record.{Record}
+use Rattle.coder.specs.declared.fit.Size.{Size}
 use Rattle.coder.specs.declared.Answer.{Answer}
 use Rattle.coder.specs.declared.TestAnswer.{TestAnswer}
-use Rattle.coder.proofs.Firsts.{first-yes, accepted-none, no-place}
-use Rattle.coder.proofs.States.{state-number, state-fit, fit-true, true-fit, or-false}
-use Rattle.coder.proofs.Answers.{fit-length}
+use Rattle.coder.proofs.Firsts.{first-yes, first-no, first-end, first-before, first-past, accepted-none, no-place}
+use Rattle.coder.proofs.States.{Open, state-number, state-open, usable-true, true-usable, or-false}
+use Rattle.coder.proofs.Answers.{usable-length}
 
 pub if-refused : {A : Type 0} (n : ℕ) (x y : A) → n ≢ 0 → ifAccepted n x y ≡ y
 if-refused zero x y h = absurd (h refl)
@@ -35,7 +39,7 @@ pub state-answer : (rec : Record) (rs : List Reason) (n : ℕ) → n ≡ firstRe
     → answerOf (firstReason (stateReasons rec ++ rs)) ≡ record { refusal = n; place = 0 }
 state-answer rec rs n e h =
     ap answerOf (state-number rec rs (λ z. h (e ∙ z)))
-    ∙ ap₂ {C = Answer} (λ (x p : ℕ). record { refusal = x; place = p }) (sym e) (no-place (stateReasons rec) (refl, (refl, tt)))
+    ∙ ap₂ {C = Answer} (λ (x p : ℕ). record { refusal = x; place = p }) (sym e) (no-place (stateReasons rec) (refl, (refl, (refl, tt))))
 
 -- ---- 4, by the place that a scan found
 module _ (w : List ℕ) (p : ℕ) (e : p ≡ badPlace w) where
@@ -48,7 +52,7 @@ module _ (w : List ℕ) (p : ℕ) (e : p ≡ badPlace w) where
   byte-good h = ap not (eq-eqb (badPlace w) 0 (sym e ∙ h))
 
 -- ---- the lengths of a record that is not fit are 0, but then a reason before them applies
-module _ (rec : Record) (s : Shape) (e : (s .places ≡ wordLength rec) × (s .message ≡ messageLength rec)) where
+module _ (rec : Record) (s : Size) (e : (s .places ≡ wordLength rec) × (s .message ≡ messageLength rec)) where
   pub by-lengths : (rs : ℕ → ℕ → List Reason)
       → firstReason (stateReasons rec ++ rs (s .places) (s .message)) ≡ firstReason (stateReasons rec ++ rs (placesIn rec) (messageIn rec))
   unfolding wordLength messageLength
@@ -57,8 +61,8 @@ module _ (rec : Record) (s : Shape) (e : (s .places ≡ wordLength rec) × (s .m
       go : (n : ℕ) → firstReason (stateReasons rec) .number ≡ n
           → firstReason (stateReasons rec ++ rs (s .places) (s .message)) ≡ firstReason (stateReasons rec ++ rs (placesIn rec) (messageIn rec))
       go zero z =
-          let f = state-fit rec z in
-          ap₂ (λ (n m : ℕ). firstReason (stateReasons rec ++ rs n m)) (e .0 ∙ fit-length rec (placesIn rec) f) (e .1 ∙ fit-length rec (messageIn rec) f)
+          let f = state-open rec z in
+          ap₂ (λ (n m : ℕ). firstReason (stateReasons rec ++ rs n m)) (e .0 ∙ usable-length rec (placesIn rec) f) (e .1 ∙ usable-length rec (messageIn rec) f)
       go (suc n) z =
           let h : firstReason (stateReasons rec) .number ≢ 0 = λ y. let c : suc n ≡ 0 = sym z ∙ y in omega arith in
           state-number rec (rs (s .places) (s .message)) h ∙ sym (state-number rec (rs (placesIn rec) (messageIn rec)) h)
@@ -73,24 +77,29 @@ module _ (rec : Record) (s : Shape) (e : (s .places ≡ wordLength rec) × (s .m
 pub right-length : (n : ℕ) (w : List ℕ) → wrongLength n w .applies ≡ false → length w ≡ n
 right-length n w h = eqb-true (length w) n (not-false (eqb (length w) n) h)
 
-pub word-accepted : (rec : Record) (w : List ℕ) → firstReason (wordReasons rec w) .number ≡ 0 → Fit rec × (length w ≡ placesIn rec)
+pub word-accepted : (rec : Record) (w : List ℕ) → firstReason (wordReasons rec w) .number ≡ 0 → Usable rec × (length w ≡ placesIn rec)
 word-accepted rec w e =
     let h = accepted-none (wordReasons rec w) refl e in
-    (true-fit rec (h .1 .0), right-length (placesIn rec) w (h .1 .1 .0))
+    (true-usable rec (h .1 .0) (h .1 .1 .0), right-length (placesIn rec) w (h .1 .1 .1 .0))
 
 pub write-accepted : (rec : Record) (n : ℕ) (w : List ℕ) (room : ℕ) → firstReason (writeReasons rec n w room) .number ≡ 0
-    → Fit rec × (length w ≡ n) × (placesIn rec ≤ room)
+    → Usable rec × (length w ≡ n) × (placesIn rec ≤ room)
 write-accepted rec n w room e =
     let h = accepted-none (writeReasons rec n w room) refl e in (
-      true-fit rec (h .1 .0),
-      right-length n w (h .1 .1 .0),
-      ltb-false room (placesIn rec) (h .1 .1 .1 .0),
+      true-usable rec (h .1 .0) (h .1 .1 .0),
+      right-length n w (h .1 .1 .1 .0),
+      ltb-false room (placesIn rec) (h .1 .1 .1 .1 .0),
     )
 
+-- a word of that length is one of the code
+pub fitted : (rec : Record) (k : ℕ) → Usable rec → k ≡ placesIn rec → Fits (rec .t) (rec .r) (rec .s) (placesOf (rec .t)) k
+unfolding placesIn
+fitted rec k f l = let st = f .allowed .stays in record { admitted = f .fit .admitted; allowed = f .allowed; all = omega arith }
+
 -- the syndrome's element
-pub plain-syndrome : (rec : Record) (w : List ℕ) → Fit rec → length w ≡ placesIn rec → syndromeFor (rec .t) (rec .r) w ≡ syndromeIn rec w
-unfolding syndromeFor syndromeIn placesIn
-plain-syndrome rec w f l = rw (admitted-admits (rec .t) (rec .r) (f .admitted), le-leb (placesOf (rec .t)) (length w) (omega arith))
+pub plain-syndrome : (rec : Record) (w : List ℕ) → Usable rec → length w ≡ placesIn rec → syndromeFor (rec .t) (rec .r) (rec .s) w ≡ syndromeIn rec w
+unfolding syndromeFor syndromeIn
+plain-syndrome rec w f l = rw (fits-word (rec .t) (rec .r) (rec .s) (length w) (fitted rec (length w) f l))
 
 -- a place to which reason 5 does not apply is one of the code
 pub inside-by : (rec : Record) (p : ℕ) → outside rec p .applies ≡ false → (1 ≤ p) × (p ≤ placesIn rec)
@@ -102,28 +111,30 @@ inside-by rec p h =
     positive zero z = absurd (z refl)
     positive (suc p) z = omega arith
 
-inside : (rec : Record) (p : ℕ) → outside rec p .applies ≡ false → isPlace (rec .t) p ≡ true
+inside : (rec : Record) (p : ℕ) → outside rec p .applies ≡ false → isPlace (rec .t) (rec .s) p ≡ true
 unfolding placesIn
 inside rec p h =
     let a = inside-by rec p h in
-    rw (le-leb 1 p (a .0), le-leb p (placesOf (rec .t)) (a .1))
+    rw (le-leb 1 p (a .0), le-leb p (placesOf (rec .t) - rec .s) (a .1))
 
-pub plain-third : (rec : Record) (i j : ℕ) → firstReason (thirdReasons rec i j) .number ≡ 0 → thirdFor (rec .t) (rec .r) i j ≡ thirdIn rec i j
-unfolding thirdFor thirdIn
+pub plain-third : (rec : Record) (i j : ℕ) → firstReason (placesReasons rec i j) .number ≡ 0
+    → thirdFor (rec .t) (rec .r) (rec .s) i j ≡ thirdOldPlaceIn rec i j
+unfolding thirdFor thirdOldPlaceIn
 plain-third rec i j e =
-    let h = accepted-none (thirdReasons rec i j) refl e in
+    let h = accepted-none (placesReasons rec i j) refl e in
+    let u = true-usable rec (h .1 .0) (h .1 .1 .0) in
     rw (
-      admitted-admits (rec .t) (rec .r) (true-fit rec (h .1 .0) .admitted),
-      inside rec i (h .1 .1 .0),
-      inside rec j (h .1 .1 .1 .0),
-      h .1 .1 .1 .1 .0,
+      both-allowed (rec .t) (rec .r) (rec .s) (u .fit .admitted) (u .allowed),
+      inside rec i (h .1 .1 .1 .0),
+      inside rec j (h .1 .1 .1 .1 .0),
+      h .1 .1 .1 .1 .1 .0,
     )
 
 -- whether a place is outside, by the lengths of a fit record
-pub outside-by : (rec : Record) (s : Shape) (f : (isClosed rec ≡ false) × (isUnfit rec ≡ false)) → s .places ≡ wordLength rec → (p : ℕ)
+pub outside-by : (rec : Record) (s : Size) (f : Open rec) → s .places ≡ wordLength rec → (p : ℕ)
     → (eqb p 0 || ltb (s .places) p) ≡ outside rec p .applies
 unfolding wordLength
-outside-by rec s f e p = ap (λ (n : ℕ). eqb p 0 || ltb n p) (e ∙ fit-length rec (placesIn rec) f)
+outside-by rec s f e p = ap (λ (n : ℕ). eqb p 0 || ltb n p) (e ∙ usable-length rec (placesIn rec) f)
 
 -- ---- the answers, by what the check answered
 module _ (rec : Record) (w : List ℕ) (a : Answer) (e : a ≡ answerOf (firstReason (wordReasons rec w))) where
@@ -136,14 +147,14 @@ module _ (rec : Record) (w : List ℕ) (a : Answer) (e : a ≡ answerOf (firstRe
   refused : a .refusal ≢ 0 → firstReason (wordReasons rec w) .number ≢ 0
   refused h z = h (number-by ∙ z)
 
-  ready : a .refusal ≡ 0 → Fit rec × (length w ≡ placesIn rec)
+  ready : a .refusal ≡ 0 → Usable rec × (length w ≡ placesIn rec)
   ready h = word-accepted rec w (sym number-by ∙ h)
 
   pub syndrome-refused : a .refusal ≢ 0 → record { refusal = a .refusal; place = a .place; element = 0 } ≡ syndromeAnswer rec w
   unfolding syndromeAnswer
   syndrome-refused h = rw (if-refused _ _ _ (refused h), ← number-by, ← place-by)
 
-  pub syndrome-accepted : a .refusal ≡ 0 → (x : List ℕ) → x ≡ syndromeFor (rec .t) (rec .r) w → (s : Shape) → s ≡ shapeFor (rec .t) (rec .r)
+  pub syndrome-accepted : a .refusal ≡ 0 → (x : List ℕ) → x ≡ syndromeFor (rec .t) (rec .r) (rec .s) w → (s : Shape) → s ≡ shapeFor (rec .t) (rec .r)
       → record { refusal = a .refusal; place = a .place; element = number (moduli (s .a) (s .b)) x } ≡ syndromeAnswer rec w
   unfolding syndromeAnswer numberIn
   syndrome-accepted h x q s k =
@@ -154,16 +165,16 @@ module _ (rec : Record) (w : List ℕ) (a : Answer) (e : a ≡ answerOf (firstRe
         ← place-by,
         q,
         plain-syndrome rec w f (ready h .1),
-        moduli-known (rec .t) (rec .r) s (known-for (rec .t) (rec .r) s k (f .admitted)),
+        moduli-known (rec .t) (rec .r) s (known-for (rec .t) (rec .r) s k (f .fit .admitted)),
       )
 
   pub codeword-refused : a .refusal ≢ 0 → record { refusal = a .refusal; place = a .place; yes = false } ≡ codewordAnswer rec w
   unfolding codewordAnswer
   codeword-refused h = rw (if-refused _ _ _ (refused h), ← number-by, ← place-by)
 
-  pub codeword-accepted : a .refusal ≡ 0 → (x : List ℕ) → x ≡ syndromeFor (rec .t) (rec .r) w
+  pub codeword-accepted : a .refusal ≡ 0 → (x : List ℕ) → x ≡ syndromeFor (rec .t) (rec .r) (rec .s) w
       → record { refusal = a .refusal; place = a .place; yes = allZero x } ≡ codewordAnswer rec w
-  unfolding codewordAnswer isCodewordIn syndromeIn
+  unfolding codewordAnswer isCodewordIn syndromeIn shortened.syndrome
   codeword-accepted h x q =
       rw (
         sym number-by ∙ h,
@@ -216,19 +227,36 @@ module _ (rec : Record) (w : List ℕ) (a : TestAnswer) (e : a ≡ codewordAnswe
   shown-yes h n k =
       let z = says-yes rec w (sym yes-by ∙ h) in
       let q = word-accepted rec w (z .0) in
-      let m : n ≡ messageIn rec = k ∙ fit-length rec (messageIn rec) (fit-true rec (q .0)) in
+      let m : n ≡ messageIn rec = k ∙ usable-length rec (messageIn rec) (usable-true rec (q .0)) in
       (ap (λ (n : ℕ). take n w) m ∙ sym (shown-codeword rec w (z .0) (z .1)), omega (arith, q .1))
 
 -- ---- the third place, by the number that the check answered
-module _ (rec : Record) (i j x : ℕ) where
-  pub third-refused : x ≡ firstReason (thirdReasons rec i j) .number → x ≢ 0 → record { refusal = x; place = 0 } ≡ thirdAnswer rec i j
-  unfolding thirdAnswer
-  third-refused e h =
-      let k : firstReason (thirdReasons rec i j) .number ≢ 0 = λ y. h (e ∙ y) in
-      let p = no-place (thirdReasons rec i j) (refl, (refl, (refl, (refl, (refl, tt))))) in
-      rw (if-refused _ _ _ k, ← e, p)
+module _ (rec : Record) (i j x : ℕ) (e : x ≡ firstReason (placesReasons rec i j) .number) where
+  abbrev left : Reason
+  left = leftOut (rec .s) (thirdOldPlaceIn rec i j)
 
-  pub third-accepted : (p : ℕ) → x ≡ firstReason (thirdReasons rec i j) .number → x ≡ 0 → p ≡ thirdFor (rec .t) (rec .r) i j
-      → record { refusal = 0; place = p } ≡ thirdAnswer rec i j
+  pub third-refused : x ≢ 0 → record { refusal = x; place = 0 } ≡ thirdAnswer rec i j
   unfolding thirdAnswer
-  third-accepted p e h q = let z : firstReason (thirdReasons rec i j) .number ≡ 0 = sym e ∙ h in rw (z, q, plain-third rec i j z)
+  third-refused h =
+      let k : firstReason (placesReasons rec i j) .number ≢ 0 = λ y. h (e ∙ y) in
+      let f = first-before (placesReasons rec i j) (left ∷ []) k in
+      let p = no-place (placesReasons rec i j) (refl, (refl, (refl, (refl, (refl, (refl, tt)))))) in
+      rw (f, if-refused _ _ _ k, ← e, p)
+
+  module _ (h : x ≡ 0) (q : ℕ) (g : q ≡ thirdFor (rec .t) (rec .r) (rec .s) i j) where
+    z : firstReason (placesReasons rec i j) .number ≡ 0
+    z = sym e ∙ h
+
+    whole : q ≡ thirdOldPlaceIn rec i j
+    whole = g ∙ plain-third rec i j z
+
+    past : firstReason (thirdReasons rec i j) ≡ firstReason (left ∷ [])
+    past = first-past (placesReasons rec i j) (left ∷ []) (accepted-none (placesReasons rec i j) refl z)
+
+    pub third-left : isLeftOut (rec .s) q ≡ true → record { refusal = 11; place = 0 } ≡ thirdAnswer rec i j
+    unfolding thirdAnswer
+    third-left y = rw (past, first-yes left [] (ap (isLeftOut (rec .s)) (sym whole) ∙ y))
+
+    pub third-accepted : isLeftOut (rec .s) q ≡ false → (p : ℕ) → p ≡ q - rec .s → record { refusal = 0; place = p } ≡ thirdAnswer rec i j
+    unfolding thirdAnswer thirdIn shortened.third thirdOldPlaceIn
+    third-accepted y p k = rw (past, first-no left [] (ap (isLeftOut (rec .s)) (sym whole) ∙ y), first-end, k, whole)

@@ -3,22 +3,22 @@
 use mathlib.Core.Path.{_≡_, refl, sym, ap, _∙_}
 use mathlib.Core.Logic.{_≢_}
 use mathlib.Core.List.{List, _++_}
-use Prim.Native.Nat.{ℕ, _+_, _≤_}
+use Prim.Native.Nat.{ℕ, _+_, _-_, _≤_}
 use native.Mathlib.Omega.{arith}
-use borrow.Author.Tests.{eq-eqb, le-leb, ltb-false}
+use borrow.Author.Tests.{le-leb, ltb-false}
 use lib.ListN.{length, drop}
 use Rattle.layout.specs.Parameters.{placesOf, messageOf}
-use Rattle.layout.proofs.Parameters.{admitted-admits}
-use Rattle.words.specs.Calls.{encodeFor, combineFor, invertFor}
-use Rattle.coder.specs.State.{Fit, placesIn, messageIn, encodedIn, combineIn, inverseIn}
+use Rattle.shortened.specs.Calls.{Fits, encodeFor, combineFor, invertFor}
+use Rattle.shortened.proofs.Guards.{fits-word, fits-message}
+use Rattle.coder.specs.State.{Usable, placesIn, messageIn, encodedIn, combineIn, inverseIn}
 use Rattle.coder.specs.Reasons.{Reason, firstReason}
 use Rattle.coder.specs.Calls.{answerOf, outputOf, encodeReasons, encodeAnswer, encodeOutput, invertReasons, invertAnswer, invertOutput}
 use Rattle.coder.specs.Calls.{combineReasons, combineAnswer, combineOutput}
 use Rattle.coder.specs.declared.Record.{Record}
 use Rattle.coder.specs.declared.Answer.{Answer}
 use Rattle.coder.proofs.Firsts.{accepted-none}
-use Rattle.coder.proofs.States.{true-fit}
-use Rattle.coder.proofs.Outcomes.{if-refused, right-length, write-accepted}
+use Rattle.coder.proofs.States.{true-usable}
+use Rattle.coder.proofs.Outcomes.{if-refused, right-length, fitted, write-accepted}
 
 -- ---- what is written, by what the check answered
 module _ (rec : Record) (rs : List Reason) (out : List ℕ) (a : Answer) (e : a ≡ answerOf (firstReason rs)) (new : List ℕ) where
@@ -33,64 +33,61 @@ module _ (rec : Record) (rs : List Reason) (out : List ℕ) (a : Answer) (e : a 
   wrote f g h = let z = sym written-by ∙ h in rw z (g z)
 
 -- ---- one word
-pub plain-encode : (rec : Record) (m out : List ℕ) → Fit rec → length m ≡ messageIn rec → placesIn rec ≤ length out
-    → encodeFor (rec .t) (rec .r) m out ≡ encodedIn rec m ++ drop (placesIn rec) out
+pub plain-encode : (rec : Record) (m out : List ℕ) → Usable rec → length m ≡ messageIn rec → placesIn rec ≤ length out
+    → encodeFor (rec .t) (rec .r) (rec .s) m out ≡ encodedIn rec m ++ drop (placesIn rec) out
 unfolding encodeFor encodedIn placesIn messageIn
 plain-encode rec m out f l k =
-    rw (admitted-admits (rec .t) (rec .r) (f .admitted), eq-eqb (length m) (messageOf (rec .t)) l, le-leb (placesOf (rec .t)) (length out) k)
+    let st = f .allowed .stays in
+    let g : Fits (rec .t) (rec .r) (rec .s) (messageOf (rec .t)) (length m) =
+    record { admitted = f .fit .admitted; allowed = f .allowed; all = omega arith } in
+    rw (fits-message (rec .t) (rec .r) (rec .s) (length m) g, le-leb (placesOf (rec .t) - rec .s) (length out) k)
 
-pub plain-invert : (rec : Record) (w out : List ℕ) → Fit rec → length w ≡ placesIn rec → placesIn rec ≤ length out
-    → invertFor (rec .t) (rec .r) w out ≡ inverseIn rec w ++ drop (placesIn rec) out
+pub plain-invert : (rec : Record) (w out : List ℕ) → Usable rec → length w ≡ placesIn rec → placesIn rec ≤ length out
+    → invertFor (rec .t) (rec .r) (rec .s) w out ≡ inverseIn rec w ++ drop (placesIn rec) out
 unfolding invertFor inverseIn placesIn
 plain-invert rec w out f l k =
-    rw (
-      admitted-admits (rec .t) (rec .r) (f .admitted),
-      le-leb (placesOf (rec .t)) (length w) (omega arith),
-      le-leb (placesOf (rec .t)) (length out) k,
-    )
+    rw (fits-word (rec .t) (rec .r) (rec .s) (length w) (fitted rec (length w) f l), le-leb (placesOf (rec .t) - rec .s) (length out) k)
 
 module _ (rec : Record) (w out : List ℕ) (a : Answer) where
   pub encode-kept : a ≡ encodeAnswer rec w out → a .refusal ≢ 0 → out ≡ encodeOutput rec w out
   unfolding encodeAnswer encodeOutput
   encode-kept e h = kept rec (encodeReasons rec w (length out)) out a e (encodedIn rec w) h
 
-  pub encode-wrote : a ≡ encodeAnswer rec w out → a .refusal ≡ 0 → encodeFor (rec .t) (rec .r) w out ≡ encodeOutput rec w out
+  pub encode-wrote : a ≡ encodeAnswer rec w out → a .refusal ≡ 0 → encodeFor (rec .t) (rec .r) (rec .s) w out ≡ encodeOutput rec w out
   unfolding encodeAnswer encodeOutput
   encode-wrote e h =
-      wrote rec (encodeReasons rec w (length out)) out a e (encodedIn rec w) (encodeFor (rec .t) (rec .r) w out)
+      wrote rec (encodeReasons rec w (length out)) out a e (encodedIn rec w) (encodeFor (rec .t) (rec .r) (rec .s) w out)
       (λ z. let q = write-accepted rec (messageIn rec) w (length out) z in plain-encode rec w out (q .0) (q .1) (q .2)) h
 
   pub invert-kept : a ≡ invertAnswer rec w out → a .refusal ≢ 0 → out ≡ invertOutput rec w out
   unfolding invertAnswer invertOutput
   invert-kept e h = kept rec (invertReasons rec w (length out)) out a e (inverseIn rec w) h
 
-  pub invert-wrote : a ≡ invertAnswer rec w out → a .refusal ≡ 0 → invertFor (rec .t) (rec .r) w out ≡ invertOutput rec w out
+  pub invert-wrote : a ≡ invertAnswer rec w out → a .refusal ≡ 0 → invertFor (rec .t) (rec .r) (rec .s) w out ≡ invertOutput rec w out
   unfolding invertAnswer invertOutput
   invert-wrote e h =
-      wrote rec (invertReasons rec w (length out)) out a e (inverseIn rec w) (invertFor (rec .t) (rec .r) w out)
+      wrote rec (invertReasons rec w (length out)) out a e (inverseIn rec w) (invertFor (rec .t) (rec .r) (rec .s) w out)
       (λ z. let q = write-accepted rec (placesIn rec) w (length out) z in plain-invert rec w out (q .0) (q .1) (q .2)) h
 
 -- ---- two words
 pub combine-accepted : (rec : Record) (x y out : List ℕ) → firstReason (combineReasons rec x y (length out)) .number ≡ 0
-    → Fit rec × (length x ≡ placesIn rec) × (length y ≡ placesIn rec) × (placesIn rec ≤ length out)
+    → Usable rec × (length x ≡ placesIn rec) × (length y ≡ placesIn rec) × (placesIn rec ≤ length out)
 combine-accepted rec x y out e =
     let h = accepted-none (combineReasons rec x y (length out)) refl e in (
-      true-fit rec (h .1 .0),
-      right-length (placesIn rec) x (h .1 .1 .0),
-      right-length (placesIn rec) y (h .1 .1 .1 .0),
-      ltb-false (length out) (placesIn rec) (h .1 .1 .1 .1 .0),
+      true-usable rec (h .1 .0) (h .1 .1 .0),
+      right-length (placesIn rec) x (h .1 .1 .1 .0),
+      right-length (placesIn rec) y (h .1 .1 .1 .1 .0),
+      ltb-false (length out) (placesIn rec) (h .1 .1 .1 .1 .1 .0),
     )
 
-pub plain-combine : (rec : Record) (x y out : List ℕ) → Fit rec → length x ≡ placesIn rec → length y ≡ placesIn rec → placesIn rec ≤ length out
-    → combineFor (rec .t) (rec .r) x y out ≡ combineIn rec x y ++ drop (placesIn rec) out
+pub plain-combine : (rec : Record) (x y out : List ℕ) → Usable rec → length x ≡ placesIn rec → length y ≡ placesIn rec → placesIn rec ≤ length out
+    → combineFor (rec .t) (rec .r) (rec .s) x y out ≡ combineIn rec x y ++ drop (placesIn rec) out
 unfolding combineFor combineIn placesIn
 plain-combine rec x y out f k l m =
-    let n = placesOf (rec .t) in
     rw (
-      admitted-admits (rec .t) (rec .r) (f .admitted),
-      le-leb n (length x) (omega arith),
-      le-leb n (length y) (omega arith),
-      le-leb n (length out) m,
+      fits-word (rec .t) (rec .r) (rec .s) (length x) (fitted rec (length x) f k),
+      fits-word (rec .t) (rec .r) (rec .s) (length y) (fitted rec (length y) f l),
+      le-leb (placesOf (rec .t) - rec .s) (length out) m,
     )
 
 module _ (rec : Record) (x y out : List ℕ) (a : Answer) where
@@ -98,8 +95,8 @@ module _ (rec : Record) (x y out : List ℕ) (a : Answer) where
   unfolding combineAnswer combineOutput
   combine-kept e h = kept rec (combineReasons rec x y (length out)) out a e (combineIn rec x y) h
 
-  pub combine-wrote : a ≡ combineAnswer rec x y out → a .refusal ≡ 0 → combineFor (rec .t) (rec .r) x y out ≡ combineOutput rec x y out
+  pub combine-wrote : a ≡ combineAnswer rec x y out → a .refusal ≡ 0 → combineFor (rec .t) (rec .r) (rec .s) x y out ≡ combineOutput rec x y out
   unfolding combineAnswer combineOutput
   combine-wrote e h =
-      wrote rec (combineReasons rec x y (length out)) out a e (combineIn rec x y) (combineFor (rec .t) (rec .r) x y out)
+      wrote rec (combineReasons rec x y (length out)) out a e (combineIn rec x y) (combineFor (rec .t) (rec .r) (rec .s) x y out)
       (λ z. let q = combine-accepted rec x y out z in plain-combine rec x y out (q .0) (q .1) (q .2) (q .3)) h

@@ -11,26 +11,30 @@ use lib.ListN.{length}
 use borrow.Author.Tests.{eqb-true, eqb-false, ltb-true, eq-eqb, ne-eqb, lt-ltb, not-true}
 use Rattle.layout.specs.Parameters.{Admitted, admits}
 use Rattle.layout.proofs.Parameters.{admits-admitted, admitted-admits}
-use Rattle.coder.specs.State.{Fit, fresh, isUnfit, placesIn, elementIn, fullCount}
-use Rattle.coder.specs.Reasons.{notAdmitted, wrongLength, shortOutput, badPlace, badByte, outside, equalPlaces, closed, unfit, full}
+use Rattle.words.specs.Words.{Bits}
+use Rattle.shortened.specs.Allowed.{Allowed, allows}
+use Rattle.shortened.specs.Code.{LeftOut, isLeftOut}
+use Rattle.shortened.proofs.Between.{allows-allowed, allowed-allows}
+use Rattle.coder.specs.State.{Fit, Usable, fresh, isUnfit, placesIn, elementIn, fullCount}
+use Rattle.coder.specs.Reasons.{notAdmitted, notAllowed, leftOut, wrongLength, shortOutput, badPlace, badByte, outside, equalPlaces, closed, unfit, full}
 use Rattle.coder.specs.Calls.{inForce, openReasons, opened, layoutReasons, elementAt, wordReasons, syndromeAnswer, codewordAnswer}
 use Rattle.coder.specs.Calls.{correctReasons, correctAnswer, correctOutput, combineReasons, combineAnswer, combineOutput}
 use Rattle.coder.specs.Calls.{encodeReasons, encodeAnswer, encodeOutput, invertReasons, invertAnswer, invertOutput, thirdReasons, thirdAnswer}
-use Rattle.words.specs.Words.{Bits}
+use Rattle.coder.specs.Claims.{Refuses}
 use Rattle.coder.specs.declared.Record.{Record}
 use Rattle.coder.specs.declared.Opened.{Opened}
-use Rattle.coder.specs.Claims.{Refuses}
 use Rattle.coder.proofs.Firsts.{by-first}
-use Rattle.coder.proofs.States.{fit-true, true-fit}
+use Rattle.coder.proofs.States.{fit-true, true-fit, usable-true}
+use Rattle.coder.proofs.Corrections.{left-false, left-true}
 use Rattle.coder.proofs.Bytes.{bits-none, none-bits}
 use Rattle.coder.proofs.Outcomes.{if-refused}
 use Rattle.coder.proofs.Outputs.{encode-kept, combine-kept, invert-kept}
-use Rattle.coder.proofs.Answers.{opened-yes, opened-no, element-inside, element-refusal, outside-yes}
+use Rattle.coder.proofs.Answers.{opened-yes, opened-not-allowed, opened-no, element-inside, element-refusal, outside-yes}
 
 -- ---- "for those reasons only"
-pub open-refuses : (t r : ℕ) → Refuses (opened t r .refusal) (openReasons t r)
+pub open-refuses : (t r s : ℕ) → Refuses (opened t r s .refusal) (openReasons t r s)
 unfolding opened
-open-refuses t r = by-first (opened t r .refusal) (openReasons t r) refl refl
+open-refuses t r s = by-first (opened t r s .refusal) (openReasons t r s) refl refl
 
 pub layout-refuses : (rec : Record) (p : ℕ) → Refuses (elementAt rec p .refusal) (layoutReasons rec p)
 layout-refuses rec p =
@@ -110,6 +114,25 @@ unfit-applies rec = (
     go true y n = y
     go false y n = absurd (n (true-fit rec y))
 
+-- 10: s is not allowed
+pub allowed-applies : (t r s : ℕ) → (notAllowed t r s .applies ≡ true) ↔ (Allowed t r s → ⊥)
+allowed-applies t r s = (
+  (λ e h. true≢false (sym e ∙ ap not (allowed-allows t r s h))),
+  (λ n. go (allows t r s) refl n),
+)
+  where
+    go : (b : Bool) → allows t r s ≡ b → (Allowed t r s → ⊥) → not (allows t r s) ≡ true
+    go true y n = absurd (n (allows-allowed t r s y))
+    go false y n = ap not y
+
+-- 11: the place is one of the first s
+pub left-applies : (s q : ℕ) → (leftOut s q .applies ≡ true) ↔ LeftOut s q
+left-applies s q = (left-true s q, go (isLeftOut s q) refl)
+  where
+    go : (b : Bool) → isLeftOut s q ≡ b → LeftOut s q → isLeftOut s q ≡ true
+    go true y h = y
+    go false y h = absurd (left-false s q y h)
+
 -- 5: the place is 0 or beyond n
 pub outside-applies : (rec : Record) (p : ℕ) → (outside rec p .applies ≡ true) ↔ ((p ≡ 0) ⊎ (placesIn rec < p))
 outside-applies rec p = (to, outside-yes rec p)
@@ -152,44 +175,52 @@ in-force : (t r : ℕ) → 2 ≤ r → inForce t r ≡ r
 in-force t zero h = absurd (omega arith)
 in-force t (suc r) h = refl
 
-pub opens : (t r : ℕ) → Admitted t r → opened t r ≡ record { refusal = 0; «record» = fresh t r }
-opens t r h =
+pub opens : (t r s : ℕ) → Admitted t r → Allowed t r s → opened t r s ≡ record { refusal = 0; «record» = fresh t r s }
+opens t r s h k =
     let e = in-force t r (h .binary) in
-    opened-yes t r (ap (admits t) e ∙ admitted-admits t r h)
-    ∙ ap {B = Opened} (λ (k : ℕ). record { refusal = 0; «record» = fresh t k }) e
+    opened-yes t r s (ap (admits t) e ∙ admitted-admits t r h) (ap (λ (j : ℕ). allows t j s) e ∙ allowed-allows t r s k)
+    ∙ ap {B = Opened} (λ (k : ℕ). record { refusal = 0; «record» = fresh t k s }) e
 
-pub opens-default : (t : ℕ) → Admitted t t → opened t 0 ≡ record { refusal = 0; «record» = fresh t t }
-opens-default t h = opened-yes t 0 (admitted-admits t t h)
+pub opens-default : (t s : ℕ) → Admitted t t → Allowed t t s → opened t 0 s ≡ record { refusal = 0; «record» = fresh t t s }
+opens-default t s h k = opened-yes t 0 s (admitted-admits t t h) (allowed-allows t t s k)
 
 -- a refused opening gives the closed record with every field 0
-pub opens-not : (t r : ℕ) → opened t r .refusal ≢ 0 → opened t r ≡ record { refusal = 1; «record» = fresh 0 0 }
-opens-not t r h = go (admits t (inForce t r)) refl
+pub opens-not : (t r s : ℕ) → opened t r s .refusal ≢ 0 → opened t r s .«record» ≡ fresh 0 0 0
+opens-not t r s h = go (admits t (inForce t r)) refl (allows t (inForce t r) s) refl
   where
-    go : (b : Bool) → admits t (inForce t r) ≡ b → opened t r ≡ record { refusal = 1; «record» = fresh 0 0 }
-    go true y = absurd (h (ap (λ (o : Opened). o .refusal) (opened-yes t r y)))
-    go false y = opened-no t r y
+    field : {x : ℕ} → opened t r s ≡ record { refusal = x; «record» = fresh 0 0 0 } → opened t r s .«record» ≡ fresh 0 0 0
+    field e = ap (λ (o : Opened). o .«record») e
 
-pub fresh-fit : (t r : ℕ) → Admitted t r → Fit (fresh t r)
-fresh-fit t r h = record { admitted = h; sums = refl }
+    go : (a : Bool) → admits t (inForce t r) ≡ a → (b : Bool) → allows t (inForce t r) s ≡ b → opened t r s .«record» ≡ fresh 0 0 0
+    go true y true z = absurd (h (ap (λ (o : Opened). o .refusal) (opened-yes t r s y z)))
+    go true y false z = field (opened-not-allowed t r s y z)
+    go false y b z = field (opened-no t r s y)
+
+pub fresh-fit : (t r s : ℕ) → Admitted t r → Fit (fresh t r s)
+fresh-fit t r s h = record { admitted = h; sums = refl }
 
 -- an accepted one gives a record of the code asked for, with every count at 0
-opened-admits : (t r : ℕ) → opened t r .refusal ≡ 0 → admits t (inForce t r) ≡ true
-opened-admits t r h = go (admits t (inForce t r)) refl
+opened-admits : (t r s : ℕ) → opened t r s .refusal ≡ 0 → (admits t (inForce t r) ≡ true) × (allows t (inForce t r) s ≡ true)
+opened-admits t r s h = go (admits t (inForce t r)) refl (allows t (inForce t r) s) refl
   where
-    go : (b : Bool) → admits t (inForce t r) ≡ b → admits t (inForce t r) ≡ true
-    go true y = y
-    go false y =
-        let z : _≡_ {A = ℕ} 1 0 = sym (ap (λ (o : Opened). o .refusal) (opened-no t r y)) ∙ h in
-        absurd (omega arith)
+    never : {x : ℕ} → opened t r s ≡ record { refusal = x; «record» = fresh 0 0 0 } → x ≢ 0 → ⊥
+    never e n = n (sym (ap (λ (o : Opened). o .refusal) e) ∙ h)
 
-pub opened-fresh : (t r : ℕ) → opened t r .refusal ≡ 0 → opened t r .«record» ≡ fresh t (inForce t r)
-opened-fresh t r h = ap (λ (o : Opened). o .«record») (opened-yes t r (opened-admits t r h))
+    go : (a : Bool) → admits t (inForce t r) ≡ a → (b : Bool) → allows t (inForce t r) s ≡ b → (admits t (inForce t r) ≡ true) × (allows t (inForce t r) s ≡ true)
+    go true y true z = (y, z)
+    go true y false z = absurd (never (opened-not-allowed t r s y z) (λ z. omega arith))
+    go false y b z = absurd (never (opened-no t r s y) (λ z. omega arith))
 
-pub opened-fit : (t r : ℕ) → opened t r .refusal ≡ 0 → Fit (opened t r .«record»)
-opened-fit t r h =
-    subst Fit (sym (opened-fresh t r h)) (fresh-fit t (inForce t r) (admits-admitted t (inForce t r) (opened-admits t r h)))
+pub opened-fresh : (t r s : ℕ) → opened t r s .refusal ≡ 0 → opened t r s .«record» ≡ fresh t (inForce t r) s
+opened-fresh t r s h = let k = opened-admits t r s h in ap (λ (o : Opened). o .«record») (opened-yes t r s (k .0) (k .1))
+
+pub opened-usable : (t r s : ℕ) → opened t r s .refusal ≡ 0 → Usable (opened t r s .«record»)
+opened-usable t r s h =
+    let k = opened-admits t r s h in
+    let f = fresh-fit t (inForce t r) s (admits-admitted t (inForce t r) (k .0)) in
+    subst Usable (sym (opened-fresh t r s h)) (record { fit = f; allowed = allows-allowed t (inForce t r) s (k .1) })
 
 -- every place of a fit record is told
-pub tells : (rec : Record) (p : ℕ) → Fit rec → 0 < p → p ≤ placesIn rec
+pub tells : (rec : Record) (p : ℕ) → Usable rec → 0 < p → p ≤ placesIn rec
     → elementAt rec p ≡ record { refusal = 0; place = 0; element = elementIn rec p }
-tells rec p h l k = element-inside rec (fit-true rec h) p (λ z. omega arith) k
+tells rec p h l k = element-inside rec (usable-true rec h) p (λ z. omega arith) k

@@ -3,20 +3,18 @@ use mathlib.Core.Path.{_≡_, refl, sym, ap, subst, _∙_}
 use mathlib.Core.Logic.{_⊎_, inl, inr, _≢_, _↔_}
 use mathlib.Core.List.{List, [], _∷_, _++_}
 use mathlib.Core.Bool.{Bool, true, false}
-use Prim.Native.Nat.{ℕ, zero, suc, _^_, _-_, _≤_}
-use native.Mathlib.Nat.{pow-succ'}
+use Prim.Native.Nat.{ℕ, zero, suc, _-_, _≤_}
 use native.Mathlib.Omega.{arith}
 use borrow.Author.Tests.{eqb-true, eqb-false, not-true, not-false}
 use lib.Dec.{eqb}
 use lib.ListN.{length, take}
 use lib.Seq.{length-take-le}
-use Rattle.layout.proofs.Parameters.{below-power}
-use Rattle.coder.specs.State.{Fit, placesIn, messageIn, isCodewordIn}
-use Rattle.coder.specs.Reasons.{Reason, firstReason, badPlace, badByte, full}
+use Rattle.coder.specs.State.{Usable, placesIn, correctedOldPlaceIn, messageIn, isCodewordIn}
+use Rattle.coder.specs.Reasons.{Reason, firstReason, leftOut, badPlace, badByte, full}
 use Rattle.coder.specs.Calls.{wordReasons, syndromeAnswer, codewordAnswer, shown, writeReasons, encodeReasons, encodeAnswer}
 use Rattle.coder.specs.Calls.{correctReasons, correctAnswer, combineReasons, combineAnswer, invertReasons, invertAnswer, thirdReasons, thirdAnswer}
-use Rattle.coder.specs.declared.Record.{Record}
 use Rattle.coder.specs.Claims.{NoneApplies, SomeApplies, Lowest, TellsPlace, TellsPlaceOfTwo}
+use Rattle.coder.specs.declared.Record.{Record}
 use Rattle.coder.proofs.Firsts.{AllTell, no-place, none-accepted, accepted-none, refused-some, some-refused, first-tells}
 use Rattle.coder.proofs.Bytes.{none-bits, lowest}
 use Rattle.coder.proofs.Outcomes.{if-refused, word-accepted, shown-refused, shown-other, shown-codeword}
@@ -42,8 +40,11 @@ word-tells rec w = (
   (λ e. other 21 w (λ e. omega arith)),
   λ e. (
     (λ e. other 22 w (λ e. omega arith)),
-    λ e.
-        ((λ e. other 2 w (λ e. omega arith)), λ e. (bad-tells w, λ e. end-tells w)),
+    λ e. (
+      (λ e. other 10 w (λ e. omega arith)),
+      λ e.
+          ((λ e. other 2 w (λ e. omega arith)), λ e. (bad-tells w, λ e. end-tells w)),
+    ),
   ),
 )
 
@@ -55,9 +56,12 @@ write-tells rec n w room rs a = (
   λ e. (
     (λ e. other 22 w (λ e. omega arith)),
     λ e. (
-      (λ e. other 2 w (λ e. omega arith)),
-      λ e.
-          ((λ e. other 3 w (λ e. omega arith)), λ e. (bad-tells w, λ e. a)),
+      (λ e. other 10 w (λ e. omega arith)),
+      λ e. (
+        (λ e. other 2 w (λ e. omega arith)),
+        λ e.
+            ((λ e. other 3 w (λ e. omega arith)), λ e. (bad-tells w, λ e. a)),
+      ),
     ),
   ),
 )
@@ -87,7 +91,7 @@ unfolding correctAnswer
 correct-tells rec w out h =
     let x = firstReason (correctReasons rec w (length out)) in
     subst (λ (p : ℕ). TellsPlace (x .number) p w) (sym (if-refused _ _ _ h))
-    (first-tells (Tells w) (correctReasons rec w (length out)) (write-tells rec (placesIn rec) w (length out) (full rec ∷ []) ((λ e. other 23 w (λ e. omega arith)), λ e. end-tells w)))
+    (first-tells (Tells w) (correctReasons rec w (length out)) (write-tells rec (placesIn rec) w (length out) (leftOut (rec .s) (correctedOldPlaceIn rec w) ∷ full rec ∷ []) ((λ e. other 11 w (λ e. omega arith)), λ e. ((λ e. other 23 w (λ e. omega arith)), λ e. end-tells w))))
 
 -- ---- two words
 pub combine-tells : (rec : Record) (x y out : List ℕ) → TellsPlaceOfTwo (combineAnswer rec x y out .refusal) (combineAnswer rec x y out .place) x y
@@ -98,17 +102,20 @@ combine-tells rec x y out =
       λ e. (
         (λ e. none 22 (λ e. omega arith)),
         λ e. (
-          (λ e. none 2 (λ e. omega arith)),
+          (λ e. none 10 (λ e. omega arith)),
           λ e. (
             (λ e. none 2 (λ e. omega arith)),
             λ e. (
-              (λ e. none 3 (λ e. omega arith)),
+              (λ e. none 2 (λ e. omega arith)),
               λ e. (
-                (λ e. record { none = λ h. absurd (h refl); lowest = λ z. inl (bad-lowest x e) }),
-                λ b. (
-                  (λ e. record { none = λ h. absurd (h refl); lowest = λ z. inr (none-bits 0 x (eqb-true (badPlace x) 0 (not-false (eqb (badPlace x) 0) b)), bad-lowest y e) }),
-                  λ e.
-                      none 0 (λ e. omega arith),
+                (λ e. none 3 (λ e. omega arith)),
+                λ e. (
+                  (λ e. record { none = λ h. absurd (h refl); lowest = λ z. inl (bad-lowest x e) }),
+                  λ b. (
+                    (λ e. record { none = λ h. absurd (h refl); lowest = λ z. inr (none-bits 0 x (eqb-true (badPlace x) 0 (not-false (eqb (badPlace x) 0) b)), bad-lowest y e) }),
+                    λ e.
+                        none 0 (λ e. omega arith),
+                  ),
                 ),
               ),
             ),
@@ -125,7 +132,7 @@ pub third-tells : (rec : Record) (i j : ℕ) → thirdAnswer rec i j .refusal �
 unfolding thirdAnswer
 third-tells rec i j h =
     if-refused _ _ _ h
-    ∙ no-place (thirdReasons rec i j) (refl, (refl, (refl, (refl, (refl, tt)))))
+    ∙ no-place (thirdReasons rec i j) (refl, (refl, (refl, (refl, (refl, (refl, (refl, tt)))))))
 
 -- ---- what a refused call says besides
 pub syndrome-none : (rec : Record) (w : List ℕ) → syndromeAnswer rec w .refusal ≢ 0 → syndromeAnswer rec w .element ≡ 0
@@ -137,15 +144,10 @@ unfolding codewordAnswer
 codeword-no rec w h = if-refused _ _ _ h
 
 -- ---- reading
--- every message has a place: n − t ≥ 1
-pub message-some : (rec : Record) → Fit rec → 1 ≤ messageIn rec
+-- every message has a place: n − t − s ≥ 1
+pub message-some : (rec : Record) → Usable rec → 1 ≤ messageIn rec
 unfolding messageIn
-message-some rec f = go (rec .t) (f .admitted .least)
-  where
-    go : (t : ℕ) → 2 ≤ t → 1 ≤ 2 ^ t - 1 - t
-    go zero h = absurd (omega arith)
-    go (suc zero) h = absurd (omega arith)
-    go (suc (suc t)) h = let i = below-power t in rw (pow-succ', pow-succ') (omega arith)
+message-some rec f = let st = f .allowed .stays in omega arith
 
 -- where no reason applies, a codeword's message is shown, and it is not empty
 pub reads : (rec : Record) (w : List ℕ) → NoneApplies (wordReasons rec w) → isCodewordIn rec w ≡ true

@@ -4,9 +4,9 @@ use mathlib.Core.List.{List, [], _∷_, _++_}
 use Prim.Native.Nat.{ℕ, zero, suc}
 use lib.ListN.{length, take, drop}
 use Rattle.words.specs.Choice.{pick}
-use Rattle.coder.specs.State.{fresh, isFit, placesIn, messageIn, elementIn, syndromeIn, numberIn, isCodewordIn, encodedIn}
-use Rattle.coder.specs.State.{correctedIn, correctedPlaceIn, combineIn, inverseIn, thirdIn, counted}
-use Rattle.coder.specs.Reasons.{Reason, firstReason, notAdmitted, wrongLength, shortOutput, badByte, outside, equalPlaces, closed, unfit, full}
+use Rattle.coder.specs.State.{fresh, isUsable, placesIn, messageIn, elementIn, syndromeIn, numberIn, isCodewordIn, encodedIn}
+use Rattle.coder.specs.State.{correctedIn, correctedPlaceIn, correctedOldPlaceIn, combineIn, inverseIn, thirdIn, thirdOldPlaceIn, counted}
+use Rattle.coder.specs.Reasons.{Reason, firstReason, notAdmitted, notAllowed, leftOut, wrongLength, shortOutput, badByte, outside, equalPlaces, closed, unfit, full}
 use Rattle.coder.specs.declared.Record.{Record}
 use Rattle.coder.specs.declared.Opened.{Opened}
 use Rattle.coder.specs.declared.Answer.{Answer}
@@ -19,9 +19,9 @@ abbrev pub ifAccepted : {A : Type 0} → ℕ → A → A → A
 ifAccepted zero x y = x
 ifAccepted (suc n) x y = y
 
--- every call on a record asks first whether it is open and fit
+-- every call on a record asks first whether it is open and fit, and whether its s is allowed
 abbrev pub stateReasons : Record → List Reason
-stateReasons rec = closed rec ∷ unfit rec ∷ []
+stateReasons rec = closed rec ∷ unfit rec ∷ notAllowed (rec .t) (rec .r) (rec .s) ∷ []
 
 -- ---- opening
 -- "r given as 0 means r = t, the Hamming code."
@@ -29,14 +29,14 @@ abbrev pub inForce : ℕ → ℕ → ℕ
 inForce t zero = t
 inForce t (suc r) = suc r
 
-abbrev pub openReasons : ℕ → ℕ → List Reason
-openReasons t r = notAdmitted t (inForce t r) ∷ []
+abbrev pub openReasons : ℕ → ℕ → ℕ → List Reason
+openReasons t r s = notAdmitted t (inForce t r) ∷ notAllowed t (inForce t r) s ∷ []
 
 -- "A refused opening gives the closed record with every field 0."
-unfoldable pub opened : ℕ → ℕ → Opened
-opened t r =
-    let n = firstReason (openReasons t r) .number in
-    record { refusal = n; «record» = ifAccepted n (fresh t (inForce t r)) (fresh 0 0) }
+unfoldable pub opened : ℕ → ℕ → ℕ → Opened
+opened t r s =
+    let n = firstReason (openReasons t r s) .number in
+    record { refusal = n; «record» = ifAccepted n (fresh t (inForce t r) s) (fresh 0 0 0) }
 
 -- ---- the layout: "the layout tells the element number of one place a call"
 abbrev pub layoutReasons : Record → ℕ → List Reason
@@ -51,15 +51,15 @@ elementAt rec p =
     let n = firstReason (layoutReasons rec p) .number in
     ifAccepted n (record { refusal = 0; place = 0; element = elementIn rec p }) (refusedElement n)
 
--- ---- lengths: n and n − t of a record that is open and fit; any other has no places
-abbrev pub ifFit : Record → ℕ → ℕ
-ifFit rec n = elim (isFit rec) as (λ _. ℕ) [ true ↦ n | false ↦ 0 ]
+-- ---- lengths: n − s and n − t − s of a usable record; any other has no places
+abbrev pub ifUsable : Record → ℕ → ℕ
+ifUsable rec n = elim (isUsable rec) as (λ _. ℕ) [ true ↦ n | false ↦ 0 ]
 
 unfoldable pub wordLength : Record → ℕ
-wordLength rec = ifFit rec (placesIn rec)
+wordLength rec = ifUsable rec (placesIn rec)
 
 unfoldable pub messageLength : Record → ℕ
-messageLength rec = ifFit rec (messageIn rec)
+messageLength rec = ifUsable rec (messageIn rec)
 
 -- ---- a word that is read: its syndrome, and whether it is a codeword
 abbrev pub wordReasons : Record → List ℕ → List Reason
@@ -107,9 +107,9 @@ encodeAnswer rec m out = answerOf (firstReason (encodeReasons rec m (length out)
 unfoldable pub encodeOutput : Record → List ℕ → List ℕ → List ℕ
 encodeOutput rec m out = outputOf (firstReason (encodeReasons rec m (length out))) rec (encodedIn rec m) out
 
--- 23 comes last of all
+-- 11, and 23 last of all
 abbrev pub correctReasons : Record → List ℕ → ℕ → List Reason
-correctReasons rec w room = writeReasons rec (placesIn rec) w room ++ (full rec ∷ [])
+correctReasons rec w room = writeReasons rec (placesIn rec) w room ++ (leftOut (rec .s) (correctedOldPlaceIn rec w) ∷ full rec ∷ [])
 
 -- "An accepted call gives number 0, and place 0 unless it is correction or third place"; a refusal gives "the record as handed in"
 unfoldable pub correctAnswer : Record → List ℕ → List ℕ → Corrected
@@ -149,11 +149,14 @@ unfoldable pub invertOutput : Record → List ℕ → List ℕ → List ℕ
 invertOutput rec w out = outputOf (firstReason (invertReasons rec w (length out))) rec (inverseIn rec w) out
 
 -- ---- the third place
-abbrev pub thirdInput : Record → ℕ → ℕ → List Reason
-thirdInput rec i j = outside rec i ∷ outside rec j ∷ equalPlaces i j ∷ []
+abbrev pub placesInput : Record → ℕ → ℕ → List Reason
+placesInput rec i j = outside rec i ∷ outside rec j ∷ equalPlaces i j ∷ []
+
+abbrev pub placesReasons : Record → ℕ → ℕ → List Reason
+placesReasons rec i j = stateReasons rec ++ placesInput rec i j
 
 abbrev pub thirdReasons : Record → ℕ → ℕ → List Reason
-thirdReasons rec i j = stateReasons rec ++ thirdInput rec i j
+thirdReasons rec i j = placesReasons rec i j ++ (leftOut (rec .s) (thirdOldPlaceIn rec i j) ∷ [])
 
 -- "An accepted call gives number 0, and place 0 unless it is correction or third place."
 unfoldable pub thirdAnswer : Record → ℕ → ℕ → Answer

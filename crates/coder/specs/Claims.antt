@@ -1,15 +1,17 @@
--- The words in which the theorems on the calls are stated: on refusals (demand 1), and on encoding, reading, combining, the inverse and the
--- third place (demand 2). Assumes nothing.
+-- The words in which the theorems on the calls are stated: on refusals (demand 1), on encoding, reading, combining, the inverse and the third
+-- place (demand 2), and on shortened codes (request C-17). Assumes nothing.
 use mathlib.Core.Path.{_≡_}
 use mathlib.Core.Logic.{_≢_, _↔_, _⊎_}
 use mathlib.Core.List.{List, [], _∷_, _++_}
 use mathlib.Core.Bool.{true, false}
-use Prim.Native.Nat.{ℕ, zero, suc, _<_, _≤_}
+use Prim.Native.Nat.{ℕ, zero, suc, _+_, _<_, _≤_}
 use lib.ListN.{length, getD, take, drop}
 use Rattle.words.specs.Words.{Bits, Word, zeroWord}
-use Rattle.coder.specs.State.{RecordOf, placesIn, messageIn, CodewordIn, ThreeIn}
+use Rattle.shortened.specs.Allowed.{Allowed}
+use Rattle.coder.specs.State.{Fit, RecordOf, placesIn, messageIn, CodewordIn, ThreeIn}
 use Rattle.coder.specs.Reasons.{Reason, inOrder}
-use Rattle.coder.specs.Calls.{encodeAnswer, encodeOutput, shown, combineAnswer, combineOutput, invertAnswer, invertOutput, thirdAnswer}
+use Rattle.coder.specs.Calls.{wordLength, messageLength, elementAt, syndromeAnswer, codewordAnswer, shown}
+use Rattle.coder.specs.Calls.{encodeAnswer, encodeOutput, correctAnswer, combineAnswer, combineOutput, invertAnswer, invertOutput, thirdAnswer}
 use Rattle.coder.specs.declared.Record.{Record}
 
 -- none of the reasons applies
@@ -63,21 +65,21 @@ pub record TellsPlaceOfTwo (x p : ℕ) (v w : List ℕ) : Type 0 where
   pub lowest : x ≡ 4 → Lowest v p ⊎ (Bits v × Lowest w p)
 
 -- "Each message gives the one codeword that begins with it, reading that codeword shows the message": what encoding wrote into the first n
--- bytes of an output, and what reading them shows with any open and fit record of the same t and r
+-- bytes of an output, and what reading them shows with any usable record of the same t, r and s
 pub record Encodes (rec : Record) (m out : List ℕ) : Type 0 where
   pub accepted : encodeAnswer rec m out ≡ record { refusal = 0; place = 0 }
   pub codeword : CodewordIn rec (take (placesIn rec) (encodeOutput rec m out))
   pub begins : take (messageIn rec) (encodeOutput rec m out) ≡ m
   pub only : (c : List ℕ) → CodewordIn rec c → take (messageIn rec) c ≡ m → c ≡ take (placesIn rec) (encodeOutput rec m out)
   pub further : drop (placesIn rec) (encodeOutput rec m out) ≡ drop (placesIn rec) out
-  pub shows : (other : Record) → RecordOf (rec .t) (rec .r) other → shown other (take (placesIn rec) (encodeOutput rec m out)) ≡ m
+  pub shows : (other : Record) → RecordOf (rec .t) (rec .r) (rec .s) other → shown other (take (placesIn rec) (encodeOutput rec m out)) ≡ m
 
 -- what combining wrote into the first n bytes of an output: a word, the same in either order with any record of the code, and a codeword
 -- where both are
 pub record Combines (rec : Record) (x y out : List ℕ) : Type 0 where
   pub accepted : combineAnswer rec x y out ≡ record { refusal = 0; place = 0 }
   pub word : Word (placesIn rec) (take (placesIn rec) (combineOutput rec x y out))
-  pub either : (other : Record) → RecordOf (rec .t) (rec .r) other → (o : List ℕ) → placesIn rec ≤ length o
+  pub either : (other : Record) → RecordOf (rec .t) (rec .r) (rec .s) other → (o : List ℕ) → placesIn rec ≤ length o
       → take (placesIn rec) (combineOutput other y x o) ≡ take (placesIn rec) (combineOutput rec x y out)
   pub codeword : CodewordIn rec x → CodewordIn rec y → CodewordIn rec (take (placesIn rec) (combineOutput rec x y out))
   pub further : drop (placesIn rec) (combineOutput rec x y out) ≡ drop (placesIn rec) out
@@ -87,12 +89,45 @@ pub record Combines (rec : Record) (x y out : List ℕ) : Type 0 where
 pub record Inverts (rec : Record) (w out : List ℕ) : Type 0 where
   pub accepted : invertAnswer rec w out ≡ record { refusal = 0; place = 0 }
   pub word : Word (placesIn rec) (take (placesIn rec) (invertOutput rec w out))
-  pub makesZero : (other : Record) → RecordOf (rec .t) (rec .r) other → (o : List ℕ) → placesIn rec ≤ length o
+  pub makesZero : (other : Record) → RecordOf (rec .t) (rec .r) (rec .s) other → (o : List ℕ) → placesIn rec ≤ length o
       → take (placesIn rec) (combineOutput other w (take (placesIn rec) (invertOutput rec w out)) o) ≡ zeroWord (placesIn rec)
   pub further : drop (placesIn rec) (invertOutput rec w out) ≡ drop (placesIn rec) out
 
--- what the third place call told of two places: the one place that makes a codeword of weight 3 with them
+-- what the third place call told of two places: the one place that makes a codeword of weight 3 with them (document 01, so with s = 0)
 pub record Thirds (rec : Record) (i j : ℕ) : Type 0 where
   pub accepted : thirdAnswer rec i j .refusal ≡ 0
   pub makes : ThreeIn rec i j (thirdAnswer rec i j .place)
   pub only : (k : ℕ) → ThreeIn rec i j k → k ≡ thirdAnswer rec i j .place
+
+-- ---- request C-17
+-- with any allowed s there may be none: the call tells k exactly where k makes a codeword of weight 3 with the two, and is refused with 11
+-- exactly where no place does
+pub record ThirdsShortened (rec : Record) (i j : ℕ) : Type 0 where
+  pub some : (k : ℕ) → (thirdAnswer rec i j ≡ record { refusal = 0; place = k }) ↔ ThreeIn rec i j k
+  pub none : (thirdAnswer rec i j .refusal ≡ 11) ↔ ((k : ℕ) → ThreeIn rec i j k → ⊥)
+
+-- "the first s message places are fixed at 0 and left out, and places are renumbered from 1. Lengths become n − s and n − t − s": what the
+-- calls that only read say, beside what they say with a record `whole` of the same t and r whose s is 0
+pub record Shortens (rec whole : Record) : Type 0 where
+  pub places : rec .s + wordLength rec ≡ wordLength whole
+  pub message : rec .s + messageLength rec ≡ messageLength whole
+  pub elements : (p : ℕ) → 0 < p → p ≤ wordLength rec → elementAt rec p ≡ elementAt whole (p + rec .s)
+  pub syndromes : (w : List ℕ) → Word (wordLength rec) w → syndromeAnswer rec w ≡ syndromeAnswer whole (zeroWord (rec .s) ++ w)
+  pub tests : (w : List ℕ) → Word (wordLength rec) w → codewordAnswer rec w ≡ codewordAnswer whole (zeroWord (rec .s) ++ w)
+
+-- "It refuses with 10 .. right after 22 elsewhere .. an s that is not allowed": the record is open and fit, and its s is not allowed
+abbrev pub BadS : Record → Type 0
+BadS rec = Fit rec × (Allowed (rec .t) (rec .r) (rec .s) → ⊥)
+
+-- every call on such a record is refused with 10, and on no other record; it has no places, and reading shows an empty part
+pub record TenIn (rec : Record) : Type 0 where
+  pub layout : (p : ℕ) → (elementAt rec p .refusal ≡ 10) ↔ BadS rec
+  pub syndrome : (w : List ℕ) → (syndromeAnswer rec w .refusal ≡ 10) ↔ BadS rec
+  pub codeword : (w : List ℕ) → (codewordAnswer rec w .refusal ≡ 10) ↔ BadS rec
+  pub encode : (m out : List ℕ) → (encodeAnswer rec m out .refusal ≡ 10) ↔ BadS rec
+  pub correct : (w out : List ℕ) → (correctAnswer rec w out .refusal ≡ 10) ↔ BadS rec
+  pub combine : (x y out : List ℕ) → (combineAnswer rec x y out .refusal ≡ 10) ↔ BadS rec
+  pub invert : (w out : List ℕ) → (invertAnswer rec w out .refusal ≡ 10) ↔ BadS rec
+  pub third : (i j : ℕ) → (thirdAnswer rec i j .refusal ≡ 10) ↔ BadS rec
+  pub lengths : BadS rec → (wordLength rec ≡ 0) × (messageLength rec ≡ 0)
+  pub reading : BadS rec → (w : List ℕ) → shown rec w ≡ []

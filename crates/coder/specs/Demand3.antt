@@ -3,7 +3,7 @@ use mathlib.Core.Path.{_≡_}
 use mathlib.Core.Logic.{_≢_, _↔_}
 use mathlib.Core.Bool.{Bool, true, false}
 use mathlib.Core.List.{List}
-use Prim.Native.Nat.{ℕ, _≤_}
+use Prim.Native.Nat.{ℕ, _-_, _≤_}
 use lib.ListN.{length, take}
 use Rattle.layout.specs.Parameters.{Admitted, placesOf, messageOf, moduliFor}
 use Rattle.layout.specs.Layout.{slots}
@@ -16,37 +16,37 @@ use Rattle.coder.specs.Claims.{byteAt}
 use Rattle.coder.specs.declared.Record.{Record}
 
 -- "Each of these calls .. may have an open and fit record of its own, with the same t and r" (document 01), and an output long enough,
--- whatever it holds
-pub record Own (t r : ℕ) : Type 0 where
+-- whatever it holds; of request C-17 "the same [s] in each record", which for demand 3 is 0
+pub record Own (t r s : ℕ) : Type 0 where
   pub given : Record
-  pub code : RecordOf t r given
+  pub code : RecordOf t r s given
   pub output : List ℕ
-  pub enough : placesOf t ≤ length output
+  pub enough : placesOf t - s ≤ length output
 
 -- "in a correction's record words is not full" (document 01)
-abbrev pub NotFull : {t r : ℕ} → Own t r → Type 0
+abbrev pub NotFull : {t r s : ℕ} → Own t r s → Type 0
 NotFull o = o .given .words ≢ fullCount
 
 -- "Of the calls it compares the first n bytes that correction, encoding and combining write .. and the places that correction tells"
 -- (document 01): what each call does with a record and an output of its own, and that it is accepted
-module _ {t r : ℕ} (o : Own t r) where
+module _ {t r s : ℕ} (o : Own t r s) where
   abbrev pub AcceptsMessage : List ℕ → Type 0
   AcceptsMessage m = encodeAnswer (o .given) m (o .output) .refusal ≡ 0
 
   abbrev pub encodedBy : List ℕ → List ℕ
-  encodedBy m = take (placesOf t) (encodeOutput (o .given) m (o .output))
+  encodedBy m = take (placesOf t - s) (encodeOutput (o .given) m (o .output))
 
   abbrev pub AcceptsTwo : List ℕ → List ℕ → Type 0
   AcceptsTwo x y = combineAnswer (o .given) x y (o .output) .refusal ≡ 0
 
   abbrev pub combinedBy : List ℕ → List ℕ → List ℕ
-  combinedBy x y = take (placesOf t) (combineOutput (o .given) x y (o .output))
+  combinedBy x y = take (placesOf t - s) (combineOutput (o .given) x y (o .output))
 
   abbrev pub AcceptsWord : List ℕ → Type 0
   AcceptsWord w = correctAnswer (o .given) w (o .output) .refusal ≡ 0
 
   abbrev pub correctedBy : List ℕ → List ℕ
-  correctedBy w = take (placesOf t) (correctOutput (o .given) w (o .output))
+  correctedBy w = take (placesOf t - s) (correctOutput (o .given) w (o .output))
 
   abbrev pub placeBy : List ℕ → ℕ
   placeBy w = correctAnswer (o .given) w (o .output) .place
@@ -79,16 +79,16 @@ pub record AtWord (t r : ℕ) (w : List ℕ) : Type 0 where
   pub within : p ≤ placesOf t
   pub flipped : c ≡ flip p w
   pub equal : (p ≡ 0) ↔ (c ≡ w)
-  pub corrects : (o : Own t r) → NotFull o → AcceptsWord o w × (correctedBy o w ≡ c) × (placeBy o w ≡ p)
+  pub corrects : (o : Own t r 0) → NotFull o → AcceptsWord o w × (correctedBy o w ≡ c) × (placeBy o w ≡ p)
   -- (3) "and encoding its first n − t places gives it again"
-  pub encodes : (o : Own t r) → AcceptsMessage o (take (messageOf t) c) × (encodedBy o (take (messageOf t) c) ≡ c)
+  pub encodes : (o : Own t r 0) → AcceptsMessage o (take (messageOf t) c) × (encodedBy o (take (messageOf t) c) ≡ c)
   -- (4) "So two different choices of message and flipped place (none included) never give one received word": flip 0 flips none. It speaks
   -- of no w, and stands here so that the five are one statement
-  pub choices : (m m′ : List ℕ) → Word (messageOf t) m → Word (messageOf t) m′ → (i j : ℕ) → i ≤ placesOf t → j ≤ placesOf t → (o o′ : Own t r)
+  pub choices : (m m′ : List ℕ) → Word (messageOf t) m → Word (messageOf t) m′ → (i j : ℕ) → i ≤ placesOf t → j ≤ placesOf t → (o o′ : Own t r 0)
       → AcceptsMessage o m × AcceptsMessage o′ m′ × (flip i (encodedBy o m) ≡ flip j (encodedBy o′ m′) → (m ≡ m′) × (i ≡ j))
   -- (5) "And when any codeword is combined with the received word, correcting the result gives that codeword combined with the corrected
   -- word; the place is the same, except that it moves": d is any codeword, x what combining it with w gives
-  pub carries : (d : List ℕ) → Codeword (moduliFor t r) d → (o₁ o₂ o₃ : Own t r) → NotFull o₂
+  pub carries : (d : List ℕ) → Codeword (moduliFor t r) d → (o₁ o₂ o₃ : Own t r 0) → NotFull o₂
       → let x = combinedBy o₁ d w in
       AcceptsTwo o₁ d w × AcceptsWord o₂ x × AcceptsTwo o₃ d c × (correctedBy o₂ x ≡ combinedBy o₃ d c) × MovedBy t r d p (placeBy o₂ x)
 

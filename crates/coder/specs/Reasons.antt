@@ -7,6 +7,8 @@ use lib.Dec.{eqb, ltb, leb}
 use lib.ListN.{length}
 use Rattle.layout.specs.Parameters.{admits}
 use Rattle.words.specs.Choice.{pick}
+use Rattle.shortened.specs.Allowed.{allows}
+use Rattle.shortened.specs.Code.{isLeftOut}
 use Rattle.coder.specs.State.{isClosed, isUnfit, placesIn, fullCount}
 use Rattle.coder.specs.declared.Record.{Record}
 
@@ -28,9 +30,9 @@ unfoldable pub firstReason : List Reason → Reason
 firstReason [] = accepted
 firstReason (x ∷ xs) = elim (x .applies) [ true ↦ x | false ↦ firstReason xs ]
 
--- "Order: 7, 1, 21, 22, 2, 3, 4, 5, 6, 23."
+-- "Order: 7, 1, 21, 22, 2, 3, 4, 5, 6, 23."; 10 "after 1 at opening and right after 22 elsewhere", 11 "after 6 .. and before 23"
 abbrev pub order : List ℕ
-order = 7 ∷ 1 ∷ 21 ∷ 22 ∷ 2 ∷ 3 ∷ 4 ∷ 5 ∷ 6 ∷ 23 ∷ []
+order = 7 ∷ 1 ∷ 21 ∷ 22 ∷ 10 ∷ 2 ∷ 3 ∷ 4 ∷ 5 ∷ 6 ∷ 11 ∷ 23 ∷ []
 
 -- how many of the numbers come before n
 abbrev pub before : List ℕ → ℕ → ℕ
@@ -75,6 +77,14 @@ outside rec p = because 5 (eqb p 0 || ltb (placesIn rec) p)
 -- "6. Two equal places."
 abbrev pub equalPlaces : ℕ → ℕ → Reason
 equalPlaces i j = because 6 (eqb i j)
+
+-- "It refuses with 10 .. an s that is not allowed"
+abbrev pub notAllowed : ℕ → ℕ → ℕ → Reason
+notAllowed t r s = because 10 (not (allows t r s))
+
+-- "and with 11 .. a correction or third place that would fall in a left-out place": q is the place by its number before renumbering
+abbrev pub leftOut : ℕ → ℕ → Reason
+leftOut s q = because 11 (isLeftOut s q)
 
 -- "21. The record is closed."
 abbrev pub closed : Record → Reason

@@ -9,17 +9,16 @@ use Prim.Native.Nat.{ℕ, _+_, _-_, _<_, _≤_}
 use lib.Dec.{eqb}
 use Rattle.layout.specs.Gate.{hit}
 use Rattle.layout.specs.Parameters.{placesOf, messageOf, binaryOf, moduliFor}
-use Rattle.layout.specs.Layout.{slots}
 use Rattle.words.specs.Words.{Word, flip}
-use Rattle.words.specs.Syndrome.{Codeword}
-use Rattle.words.specs.Halves.{isBinary, isPaired}
-use Rattle.coder.specs.State.{Fit, fullCount}
+use Rattle.shortened.specs.Code.{Codeword, isBinary, isPaired}
+use Rattle.coder.specs.State.{Usable, fullCount}
 use Rattle.coder.specs.Calls.{correctAnswer}
 use Rattle.coder.specs.declared.Record.{Record}
 
 -- the public calls other than correction, with any arguments beside the record; an output is given by what it holds before the call
 pub data Other : Type 0 where
-  opening thirdPlace : ℕ → ℕ → Other
+  opening : ℕ → ℕ → ℕ → Other
+  thirdPlace : ℕ → ℕ → Other
   layoutAt : ℕ → Other
   lengthOfWord lengthOfMessage : Other
   syndromeOf testing reading : List ℕ → Other
@@ -60,28 +59,30 @@ howMany kind [] = 0
 howMany kind (x ∷ xs) = hit (eqb (x .refusal) 0 && kind (x .place)) + howMany kind xs
 
 -- the counts of a record are those of the corrections that were accepted: all; those of place 0; of a binary place; of a place of a pair
-pub record Counts (t r : ℕ) (rec : Record) (xs : List Outcome) : Type 0 where
+pub record Counts (t r s : ℕ) (rec : Record) (xs : List Outcome) : Type 0 where
   pub sameT : rec .t ≡ t
   pub sameR : rec .r ≡ r
+  pub sameS : rec .s ≡ s
   pub words : rec .words ≡ howMany (λ p. true) xs
   pub clean : rec .clean ≡ howMany (λ p. eqb p 0) xs
-  pub binary : rec .«corrected_binary» ≡ howMany (isBinary (slots (moduliFor t r))) xs
-  pub pairs : rec .«corrected_pairs» ≡ howMany (isPaired (slots (moduliFor t r))) xs
+  pub binary : rec .«corrected_binary» ≡ howMany (isBinary (moduliFor t r) s) xs
+  pub pairs : rec .«corrected_pairs» ≡ howMany (isPaired (moduliFor t r) s) xs
   -- "Counts stop at 4,294,967,295": then corrections are refused, and not counted
   pub most : rec .words ≤ fullCount
   -- "Each accepted correction adds one to words and to one of the other three": so the record stays open and fit
-  pub fit : Fit rec
+  pub fit : Usable rec
 
 -- what an accepted correction's place says of the word: place 0 that it was a codeword, a binary place or one of a pair that it is a codeword
--- with this place flipped. There is no other kind, and the binary places are those of part 1, the first k − a, and of part 3, a after the message
-pub record Meant (t r : ℕ) (x : Outcome) : Type 0 where
-  pub isWord : Word (placesOf t) (x .word)
-  pub clean : (x .place ≡ 0) ↔ Codeword (moduliFor t r) (x .word)
-  pub flipped : Codeword (moduliFor t r) (flip (x .place) (x .word))
-  pub kinds : (x .place ≡ 0) ⊎ (isBinary (slots (moduliFor t r)) (x .place) ≡ true) ⊎ (isPaired (slots (moduliFor t r)) (x .place) ≡ true)
-  pub binary : (isBinary (slots (moduliFor t r)) (x .place) ≡ true)
-      ↔ (((1 ≤ x .place) × (x .place ≤ placesOf r - binaryOf t r)) ⊎ ((messageOf t < x .place) × (x .place ≤ messageOf t + binaryOf t r)))
+-- with this place flipped. There is no other kind, and the binary places are those that were of part 1, the first k − a, and of part 3, a after the
+-- message, before the first s were left out
+pub record Meant (t r s : ℕ) (x : Outcome) : Type 0 where
+  pub isWord : Word (placesOf t - s) (x .word)
+  pub clean : (x .place ≡ 0) ↔ Codeword (moduliFor t r) s (x .word)
+  pub flipped : Codeword (moduliFor t r) s (flip (x .place) (x .word))
+  pub kinds : (x .place ≡ 0) ⊎ (isBinary (moduliFor t r) s (x .place) ≡ true) ⊎ (isPaired (moduliFor t r) s (x .place) ≡ true)
+  pub binary : (isBinary (moduliFor t r) s (x .place) ≡ true)
+      ↔ (((1 ≤ x .place) × (x .place + s ≤ placesOf r - binaryOf t r)) ⊎ ((messageOf t < x .place + s) × (x .place + s ≤ messageOf t + binaryOf t r)))
 
-abbrev pub AllMeant : ℕ → ℕ → List Outcome → Type 0
-AllMeant t r [] = Unit {0}
-AllMeant t r (x ∷ xs) = (x .refusal ≡ 0 → Meant t r x) × AllMeant t r xs
+abbrev pub AllMeant : ℕ → ℕ → ℕ → List Outcome → Type 0
+AllMeant t r s [] = Unit {0}
+AllMeant t r s (x ∷ xs) = (x .refusal ≡ 0 → Meant t r s x) × AllMeant t r s xs

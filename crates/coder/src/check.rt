@@ -6,9 +6,9 @@ ghost use mathlib.Core.List.{_∷_, [], _++_};
 ghost use Prim.Native.Nat.{_<_, _≤_};
 ghost use lib.Dec.{eqb, ltb};
 ghost use lib.ListN.{length};
-ghost use Rattle.coder.specs.Reasons.{firstReason, wrongLength, shortOutput, badByte, badPlace};
+ghost use Rattle.coder.specs.Reasons.{firstReason, notAdmitted, notAllowed, leftOut, full, wrongLength, shortOutput, badByte, badPlace};
 ghost use Rattle.coder.specs.State.{placesIn};
-ghost use Rattle.coder.specs.Calls.{answerOf, stateReasons, wordReasons, writeReasons, correctReasons, combineReasons, thirdReasons};
+ghost use Rattle.coder.specs.Calls.{answerOf, stateReasons, wordReasons, writeReasons, combineReasons, placesReasons};
 use crate::Answer;
 use crate::Record;
 use crate::fit;
@@ -16,7 +16,7 @@ use crate::fit;
 // The largest count.
 const FULL: u32 = 4294967295;
 
-// 21, 22, 2, 3 and 4: n bytes are asked of the word, and the output has `room` bytes of which `need`
+// 21, 22, 10, 2, 3 and 4: n bytes are asked of the word, and the output has `room` bytes of which `need`
 // are needed.
 pub(crate) fn output(record: Record, n: u32, word: &[u8], need: u32, room: usize) -> Answer
     ensures { λ x. ⌜ x ≡ answerOf (firstReason (stateReasons «record» ++ (wrongLength n (now (word .entry)) ∷ shortOutput need room ∷ badByte (now (word .entry)) ∷ []))) ⌝ }
@@ -70,25 +70,35 @@ pub(crate) fn written(record: Record, word: &[u8], room: usize) -> Answer
     output(record, n, word, n, room)
 }
 
-// 21, 22, 2, 3 and 4 of a word and an output, and 23 last of all.
-pub(crate) fn correction(record: Record, word: &[u8], room: usize) -> Answer
-    ensures { λ x. ⌜ x ≡ answerOf (firstReason (correctReasons «record» (now (word .entry)) room)) ⌝ }
+// 1 and 10 of an opening with the r in force.
+pub(crate) fn opening(t: u32, r: u32, s: u32) -> u32
+    ensures { λ x. ⌜ x ≡ firstReason (notAdmitted t r ∷ notAllowed t r s ∷ []) .number ⌝ }
 {
-    let a = written(record, word, room);
-    let all = record.words;
-    if a.refusal != 0 {
-        return a;
+    if layout::admitted(t, r) {
+        if shortened::allowed(t, r, s) {
+            return 0;
+        }
+        return 10;
     }
-    if all == FULL {
-        return Answer {
-            refusal: 23,
-            place: 0,
-        };
-    }
-    a
+    1
 }
 
-// 21, 22, 2, 3 and 4 of two words: a fault of the first before the same fault of the second.
+// 11 and 23 of a correction at place q, by its number before renumbering.
+pub(crate) fn changed(record: Record, q: u32) -> u32
+    ensures { λ x. ⌜ x ≡ firstReason (leftOut («record» .s) q ∷ full «record» ∷ []) .number ⌝ }
+{
+    let s = record.s;
+    let all = record.words;
+    if shortened::is_left_out(s, q) {
+        return 11;
+    }
+    if all == FULL {
+        return 23;
+    }
+    0
+}
+
+// 21, 22, 10, 2, 3 and 4 of two words: a fault of the first before the same fault of the second.
 pub(crate) fn two(record: Record, first: &[u8], second: &[u8], room: usize) -> Answer
     ensures { λ x. ⌜ x ≡ answerOf (firstReason (combineReasons «record» (now (first .entry)) (now (second .entry)) room)) ⌝ }
 {
@@ -147,9 +157,9 @@ fn bytes(first: &[u8], second: &[u8]) -> Answer
     }
 }
 
-// 21, 22, 5 and 6 of two places.
+// 21, 22, 10, 5 and 6 of two places.
 pub(crate) fn places(record: Record, i: u32, j: u32) -> u32
-    ensures { λ x. ⌜ x ≡ firstReason (thirdReasons «record» i j) .number ⌝ }
+    ensures { λ x. ⌜ x ≡ firstReason (placesReasons «record» i j) .number ⌝ }
 {
     let x = fit::state(record);
     if x != 0 {

@@ -16,19 +16,21 @@ fn add(count: u32, yes: bool) -> u32
 
 // The record after an accepted correction that told a place. The three counts are at most their sum.
 pub(crate) fn counted(record: Record, place: u32) -> Record
-    requires { ⌜ (state.Fit «record») × («record» .words ≢ state.fullCount) ⌝ }
+    requires { ⌜ (state.Usable «record») × («record» .words ≢ state.fullCount) ⌝ }
     ensures { λ x. ⌜ x ≡ state.counted «record» place ⌝ }
 {
     let t = record.t;
     let r = record.r;
+    let s = record.s;
     let all = record.words;
     let clean = record.clean;
     let binary = record.corrected_binary;
     let pairs = record.corrected_pairs;
-    let width = words::width(t, r, place);
+    let width = shortened::width(t, r, s, place);
     Record {
         t,
         r,
+        s,
         words: all + 1,
         clean: add(clean, place == 0),
         corrected_binary: add(binary, width == 1),

@@ -1,11 +1,19 @@
 // Whether a record is open and fit, and the lengths that it fixes.
 ghost use mathlib.Core.Path.{_≡_};
-ghost use Rattle.coder.specs.State.{isUnfit};
+ghost use mathlib.Core.Bool.{true};
+ghost use Rattle.layout.specs.Parameters.{admits};
+ghost use Rattle.coder.specs.State.{isUnfit, isNotAllowed};
 ghost use Rattle.coder.specs.Reasons.{firstReason};
 ghost use Rattle.coder.specs.Calls.{stateReasons, wordLength, messageLength};
 use crate::Record;
 
-// 21 where the record is closed, 22 where it is unfit, and 0.
+// n − s and n − t − s.
+pub(crate) struct Size {
+    pub places: u32,
+    pub message: u32,
+}
+
+// 21 where the record is closed, 22 where it is unfit, 10 where its s is not allowed, and 0.
 pub(crate) fn state(record: Record) -> u32
     ensures { λ x. ⌜ x ≡ firstReason (stateReasons «record») .number ⌝ }
 {
@@ -15,6 +23,9 @@ pub(crate) fn state(record: Record) -> u32
     }
     if unfit(record) {
         return 22;
+    }
+    if not_allowed(record) {
+        return 10;
     }
     0
 }
@@ -38,14 +49,37 @@ fn unfit(record: Record) -> bool
     true
 }
 
-// The lengths of an open and fit record; no parameters have t = 0, so that any other has none.
-pub(crate) fn lengths(record: Record) -> layout::Shape
+// Whether the s of an open and fit record is not allowed.
+fn not_allowed(record: Record) -> bool
+    requires { ⌜ admits («record» .t) («record» .r) ≡ true ⌝ }
+    ensures { λ x. ⌜ x ≡ isNotAllowed «record» ⌝ }
+{
+    let t = record.t;
+    let r = record.r;
+    let s = record.s;
+    if shortened::allowed(t, r, s) {
+        false
+    } else {
+        true
+    }
+}
+
+// The lengths of a usable record; any other has none.
+pub(crate) fn lengths(record: Record) -> Size
     ensures { λ x. ⌜ (x .places ≡ wordLength «record») × (x .message ≡ messageLength «record») ⌝ }
 {
     let t = record.t;
     let r = record.r;
+    let s = record.s;
     if state(record) == 0 {
-        return layout::shape_of(t, r);
+        let h = layout::shape_of(t, r);
+        return Size {
+            places: h.places - s,
+            message: h.message - s,
+        };
     }
-    layout::shape_of(0, 0)
+    Size {
+        places: 0,
+        message: 0,
+    }
 }

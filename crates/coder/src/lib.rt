@@ -1,8 +1,9 @@
 // The calls of document 01 on a record. Every input is answered. A refusal is a number; 0 says that the
 // call is accepted. What each call answers is defined in specs/Calls.antt; proofs/Refusals.antt has
-// the theorems on refusals. Whether a record is open and fit is found in fit.rt, what is wrong with
-// a word, an output or a place in check.rt; count.rt counts; the work on plain words is done by crate
-// words. Demand 3, on encode, correct and combine, is proofs/Demand3.antt.
+// the theorems on refusals. Whether a record is usable is found in fit.rt, what is wrong with a word,
+// an output or a place in check.rt; count.rt counts; the work on plain words, of which the first s
+// places of the whole code's are left out, is done by crate shortened. Demand 3, on encode, correct and
+// combine, is proofs/Demand3.antt, and its sister for shortened codes proofs/Demand3Shortened.antt.
 mod check;
 mod count;
 mod fit;
@@ -12,13 +13,15 @@ ghost use denote.Ref.{ptr};
 ghost use Rattle.coder.specs.State.{fresh};
 ghost use Rattle.coder.specs.Calls.{inForce, refusedElement, opened, elementAt, wordLength, messageLength, syndromeAnswer, codewordAnswer, shown};
 ghost use Rattle.coder.specs.Calls.{encodeAnswer, encodeOutput, correctAnswer, correctOutput, combineAnswer, combineOutput, invertAnswer, invertOutput, thirdAnswer};
-ghost use Rattle.words.specs.Calls.{faultFor};
+ghost use Prim.Native.Nat.{_-_};
+ghost use Rattle.shortened.specs.Calls.{faultFor};
 
-// Which code it is, how many corrections were accepted, and what they came to. The last two counts are
-// what document 01 calls "mended binary" and "mended in pairs".
+// Which code it is, of which s places are left out, how many corrections were accepted, and what they
+// came to. The last two counts are what document 01 calls "mended binary" and "mended in pairs".
 pub struct Record {
     pub t: u32,
     pub r: u32,
+    pub s: u32,
     pub words: u32,
     pub clean: u32,
     pub corrected_binary: u32,
@@ -57,24 +60,26 @@ pub struct Corrected {
     pub record: Record,
 }
 
-// A record for the code with t and r; r = 0 means r = t. Refused with 1 where t and r are not admitted.
-pub fn open(t: u32, r: u32) -> Opened
-    ensures { λ x. ⌜ x ≡ opened t r ⌝ }
+// A record for the code with t and r, shortened by s; r = 0 means r = t. Refused with 1 where t and r
+// are not admitted, and with 10 where s is not allowed.
+pub fn open(t: u32, r: u32, s: u32) -> Opened
+    ensures { λ x. ⌜ x ≡ opened t r s ⌝ }
 {
-    let s = in_force(t, r);
-    if layout::admitted(t, s) {
+    let used = in_force(t, r);
+    let refusal = check::opening(t, used, s);
+    if refusal != 0 {
         return Opened {
-            refusal: 0,
-            record: new_record(t, s),
+            refusal,
+            record: new_record(0, 0, 0),
         };
     }
     Opened {
-        refusal: 1,
-        record: new_record(0, 0),
+        refusal,
+        record: new_record(t, used, s),
     }
 }
 
-// The number of the element of a place. Refused with 21, 22 and 5.
+// The number of the element of a place. Refused with 21, 22, 10 and 5.
 pub fn element_at(record: Record, place: u32) -> ElementAnswer
     ensures { λ x. ⌜ x ≡ elementAt «record» place ⌝ }
 {
@@ -84,17 +89,18 @@ pub fn element_at(record: Record, place: u32) -> ElementAnswer
     }
     let t = record.t;
     let r = record.r;
-    let s = layout::shape_of(t, r);
-    let a = s.a;
-    let b = s.b;
-    let n = s.places;
+    let s = record.s;
+    let shape = layout::shape_of(t, r);
+    let a = shape.a;
+    let b = shape.b;
+    let n = shape.places;
     if place == 0 {
         return refused_element(5);
     }
-    if n < place {
+    if n - s < place {
         return refused_element(5);
     }
-    let e = layout::element_at(t, r, place);
+    let e = layout::element_at(t, r, place + s);
     ElementAnswer {
         refusal: 0,
         place: 0,
@@ -102,23 +108,23 @@ pub fn element_at(record: Record, place: u32) -> ElementAnswer
     }
 }
 
-// n, the places of a word; 0 where the record is not open and fit.
+// n − s, the places of a word; 0 where 21, 22 or 10 applies to the record.
 pub fn word_length(record: Record) -> u32
     ensures { λ x. ⌜ x ≡ wordLength «record» ⌝ }
 {
-    let s = fit::lengths(record);
-    s.places
+    let size = fit::lengths(record);
+    size.places
 }
 
-// n − t, the places of a message; 0 where the record is not open and fit.
+// n − t − s, the places of a message; 0 where 21, 22 or 10 applies to the record.
 pub fn message_length(record: Record) -> u32
     ensures { λ x. ⌜ x ≡ messageLength «record» ⌝ }
 {
-    let s = fit::lengths(record);
-    s.message
+    let size = fit::lengths(record);
+    size.message
 }
 
-// The number of a word's syndrome. Refused with 21, 22, 2 and 4.
+// The number of a word's syndrome. Refused with 21, 22, 10, 2 and 4.
 pub fn syndrome(record: Record, word: &[u8]) -> ElementAnswer
     ensures { λ x. ⌜ x ≡ syndromeAnswer «record» (now (word .entry)) ⌝ }
 {
@@ -134,16 +140,17 @@ pub fn syndrome(record: Record, word: &[u8]) -> ElementAnswer
     }
     let t = record.t;
     let r = record.r;
-    let e = words::syndrome(t, r, word);
-    let s = layout::shape_of(t, r);
+    let s = record.s;
+    let e = shortened::syndrome(t, r, s, word);
+    let shape = layout::shape_of(t, r);
     ElementAnswer {
         refusal,
         place,
-        element: group::number_of(s.a, s.b, e),
+        element: group::number_of(shape.a, shape.b, e),
     }
 }
 
-// Whether a word is a codeword. Refused with 21, 22, 2 and 4, and then it says no.
+// Whether a word is a codeword. Refused with 21, 22, 10, 2 and 4, and then it says no.
 pub fn is_codeword(record: Record, word: &[u8]) -> TestAnswer
     ensures { λ x. ⌜ x ≡ codewordAnswer «record» (now (word .entry)) ⌝ }
 {
@@ -159,11 +166,12 @@ pub fn is_codeword(record: Record, word: &[u8]) -> TestAnswer
     }
     let t = record.t;
     let r = record.r;
-    let s = words::syndrome(t, r, word);
+    let s = record.s;
+    let sum = shortened::syndrome(t, r, s, word);
     TestAnswer {
         refusal,
         place,
-        yes: group::is_zero(s),
+        yes: group::is_zero(sum),
     }
 }
 
@@ -188,7 +196,7 @@ fn message_bytes(record: Record) -> usize
     message_length(record) as usize
 }
 
-// The codeword of a message, at the front of `out`. Refused with 21, 22, 2, 3 and 4.
+// The codeword of a message, at the front of `out`. Refused with 21, 22, 10, 2, 3 and 4.
 pub fn encode(record: Record, message: &[u8], out: &mut [u8]) -> Answer
     ensures answer { λ x. ⌜ x ≡ encodeAnswer «record» (now (message .entry)) (now (out .entry)) ⌝ }
     ensures bytes { λ x. ⌜ now (out .exit) ≡ encodeOutput «record» (now (message .entry)) (now (out .entry)) ⌝ }
@@ -198,18 +206,19 @@ pub fn encode(record: Record, message: &[u8], out: &mut [u8]) -> Answer
     if a.refusal == 0 {
         let t = record.t;
         let r = record.r;
-        words::encode(t, r, message, out);
+        let s = record.s;
+        shortened::encode(t, r, s, message, out);
     }
     a
 }
 
 // The codeword that differs from a word in at most one place, at the front of `out`, and that place.
-// Refused with 21, 22, 2, 3, 4 and 23.
+// Refused with 21, 22, 10, 2, 3, 4, 11 and 23.
 pub fn correct(record: Record, word: &[u8], out: &mut [u8]) -> Corrected
     ensures answer { λ x. ⌜ x ≡ correctAnswer «record» (now (word .entry)) (now (out .entry)) ⌝ }
     ensures bytes { λ x. ⌜ now (out .exit) ≡ correctOutput «record» (now (word .entry)) (now (out .entry)) ⌝ }
 {
-    let a = check::correction(record, word, out.len());
+    let a = check::written(record, word, out.len());
     let refusal = a.refusal;
     if refusal != 0 {
         return Corrected {
@@ -218,25 +227,46 @@ pub fn correct(record: Record, word: &[u8], out: &mut [u8]) -> Corrected
             record,
         };
     }
-    let p = fault(record, word);
+    let q = fault(record, word);
+    let x = check::changed(record, q);
+    if x != 0 {
+        return Corrected {
+            refusal: x,
+            place: 0,
+            record,
+        };
+    }
+    let p = new_place(record, q);
     words::flip(word, p, out);
     Corrected {
-        refusal,
+        refusal: x,
         place: p,
         record: count::counted(record, p),
     }
 }
 
-// The place at fault in a word of the record's code.
+// The place at fault in a word of the record's code, by its number before renumbering.
 fn fault(record: Record, word: &[u8]) -> u32
-    ensures { λ x. ⌜ x ≡ faultFor («record» .t) («record» .r) (now (word .entry)) ⌝ }
+    ensures { λ x. ⌜ x ≡ faultFor («record» .t) («record» .r) («record» .s) (now (word .entry)) ⌝ }
 {
     let t = record.t;
     let r = record.r;
-    words::fault(t, r, word)
+    let s = record.s;
+    shortened::fault(t, r, s, word)
 }
 
-// Two words combined by the group law, at the front of `out`. Refused with 21, 22, 2, 3 and 4.
+// A place, renumbered.
+fn new_place(record: Record, place: u32) -> u32
+    ensures { λ x. ⌜ x ≡ place - («record» .s) ⌝ }
+{
+    let s = record.s;
+    if place < s {
+        return 0;
+    }
+    place - s
+}
+
+// Two words combined by the group law, at the front of `out`. Refused with 21, 22, 10, 2, 3 and 4.
 pub fn combine(record: Record, first: &[u8], second: &[u8], out: &mut [u8]) -> Answer
     ensures answer { λ x. ⌜ x ≡ combineAnswer «record» (now (first .entry)) (now (second .entry)) (now (out .entry)) ⌝ }
     ensures bytes { λ x. ⌜ now (out .exit) ≡ combineOutput «record» (now (first .entry)) (now (second .entry)) (now (out .entry)) ⌝ }
@@ -245,12 +275,13 @@ pub fn combine(record: Record, first: &[u8], second: &[u8], out: &mut [u8]) -> A
     if a.refusal == 0 {
         let t = record.t;
         let r = record.r;
-        words::combine(t, r, first, second, out);
+        let s = record.s;
+        shortened::combine(t, r, s, first, second, out);
     }
     a
 }
 
-// The inverse of a word, at the front of `out`. Refused with 21, 22, 2, 3 and 4.
+// The inverse of a word, at the front of `out`. Refused with 21, 22, 10, 2, 3 and 4.
 pub fn invert(record: Record, word: &[u8], out: &mut [u8]) -> Answer
     ensures answer { λ x. ⌜ x ≡ invertAnswer «record» (now (word .entry)) (now (out .entry)) ⌝ }
     ensures bytes { λ x. ⌜ now (out .exit) ≡ invertOutput «record» (now (word .entry)) (now (out .entry)) ⌝ }
@@ -259,12 +290,14 @@ pub fn invert(record: Record, word: &[u8], out: &mut [u8]) -> Answer
     if a.refusal == 0 {
         let t = record.t;
         let r = record.r;
-        words::invert(t, r, word, out);
+        let s = record.s;
+        shortened::invert(t, r, s, word, out);
     }
     a
 }
 
-// The place that makes a codeword of weight 3 with the places i and j. Refused with 21, 22, 5 and 6.
+// The place that makes a codeword of weight 3 with the places i and j. Refused with 21, 22, 10, 5, 6
+// and 11.
 pub fn third_place(record: Record, i: u32, j: u32) -> Answer
     ensures { λ x. ⌜ x ≡ thirdAnswer «record» i j ⌝ }
 {
@@ -277,9 +310,17 @@ pub fn third_place(record: Record, i: u32, j: u32) -> Answer
     }
     let t = record.t;
     let r = record.r;
+    let s = record.s;
+    let q = shortened::third(t, r, s, i, j);
+    if shortened::is_left_out(s, q) {
+        return Answer {
+            refusal: 11,
+            place: 0,
+        };
+    }
     Answer {
         refusal: 0,
-        place: words::third(t, r, i, j),
+        place: new_place(record, q),
     }
 }
 
@@ -290,12 +331,13 @@ fn in_force(t: u32, r: u32) -> u32
     if r == 0 { t } else { r }
 }
 
-fn new_record(t: u32, r: u32) -> Record
-    ensures { λ x. ⌜ x ≡ fresh t r ⌝ }
+fn new_record(t: u32, r: u32, s: u32) -> Record
+    ensures { λ x. ⌜ x ≡ fresh t r s ⌝ }
 {
     Record {
         t,
         r,
+        s,
         words: 0,
         clean: 0,
         corrected_binary: 0,

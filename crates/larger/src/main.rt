@@ -33,7 +33,7 @@ fn with_each_r(t: u32)
 fn open(t: u32, r: u32)
     requires { ⌜ (t ≤ 11) × (r ≤ 12) ⌝ }
 {
-    let o = coder::open(t, r);
+    let o = coder::open(t, r, 0);
     let refusal = o.refusal;
     text(b"open");
     number(t);

@@ -23,6 +23,6 @@ module _ (input : List ℕ) (l : Line) (e : l ≡ readLine input) where
   unfolding sheetText lineText
   sheet-malformed m = rw (← e, m)
 
-  pub sheet-read : (t r : ℕ) → l ≡ Read t r → answerText (opened t r) ≡ sheetText input
+  pub sheet-read : (t r : ℕ) → l ≡ Read t r → answerText (opened t r 0) ≡ sheetText input
   unfolding sheetText lineText
   sheet-read t r m = rw (← e, m)

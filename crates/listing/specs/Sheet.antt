@@ -51,7 +51,7 @@ answerText o = pick (eqb (o .refusal) 0) (listingText (o .«record»)) (refusedL
 -- a line that is not of the form is refused with 7, before the parameters are looked at
 unfoldable pub lineText : Line → List ℕ
 lineText Malformed = refusedLine 7
-lineText (Read t r) = answerText (opened t r)
+lineText (Read t r) = answerText (opened t r 0)
 
 -- the bytes of the whole output for the bytes of an input
 unfoldable pub sheetText : List ℕ → List ℕ

@@ -1,28 +1,36 @@
 -- Each call for C is the coder's call with a record just opened: neither 21, 22 nor 23 applies to such a record, so that only the reasons
 -- because of the input are left. Assumes nothing.
 use mathlib.Core.Path.{_≡_, refl, sym, ap, subst, _∙_}
+use mathlib.Core.Bool.{Bool, true, false, not, _&&_}
 use mathlib.Core.Logic.{_≢_}
-use mathlib.Core.List.{List, _++_}
+use mathlib.Core.List.{List, [], _∷_, _++_, append-nil, append-assoc}
 use Prim.Native.Nat.{ℕ, zero, suc, _<_, _^_}
 use native.Mathlib.Omega.{arith}
+use borrow.Author.Tests.{lt-leb}
+use lib.Dec.{leb}
 use lib.ListN.{length, drop}
-use Rattle.layout.specs.Parameters.{Admitted}
-use Rattle.coder.specs.State.{Fit, fresh, placesIn, messageIn, encodedIn, correctedIn, correctedPlaceIn, combineIn, thirdIn}
-use Rattle.coder.specs.Reasons.{Reason, firstReason, full}
+use Rattle.layout.specs.Parameters.{Admitted, admits}
+use Rattle.layout.proofs.Parameters.{admits-admitted}
+use Rattle.shortened.specs.Code.{isLeftOut}
+use Rattle.shortened.proofs.Between.{allowed-allows, zero-allowed}
+use Rattle.coder.specs.State.{Usable, fresh, placesIn, messageIn, encodedIn, correctedIn, correctedPlaceIn, correctedOldPlaceIn, combineIn, thirdIn, thirdOldPlaceIn}
+use Rattle.coder.specs.Reasons.{Reason, firstReason, notAdmitted, leftOut, full}
 use Rattle.coder.specs.Calls as coder
-use Rattle.coder.specs.Calls.{ifAccepted, openReasons, opened, stateReasons, writeInput, combineInput, thirdInput}
+use Rattle.coder.specs.Calls.{ifAccepted, inForce, opened, stateReasons, writeInput, combineInput, placesInput}
+use Rattle.coder.specs.Claims.{NoneApplies}
 use Rattle.coder.specs.declared.Record.{Record}
 use Rattle.coder.specs.declared.Opened.{Opened}
-use Rattle.coder.proofs.Firsts.{first-before, first-past, first-last, accepted-none}
-use Rattle.coder.proofs.States.{fit-true, state-past}
-use Rattle.coder.proofs.Refusals.{opens, opened-fresh, opened-fit}
+use Rattle.coder.proofs.Firsts.{first-yes, first-no, first-end, first-before, first-past, first-last, accepted-none}
+use Rattle.coder.proofs.States.{usable-true, state-past}
+use Rattle.coder.proofs.Answers.{opened-yes, opened-no}
+use Rattle.coder.proofs.Refusals.{opens, opened-fresh, opened-usable}
 use Rattle.coder.proofs.Bounds.{numbers, open-refusal}
 use Rattle.z2z4.specs.Calls.{signed, codeFor, callReasons, encodeAnswer, encodeOutput, correctAnswer, correctOutput}
 use Rattle.z2z4.specs.Calls.{combineAnswer, combineOutput, thirdAnswer}
 use Rattle.z2z4.specs.Claims.{AsOpened, encodeTold, correctTold, combineTold, thirdTold, Encoded, Corrected, Combined, Third, SameCalls}
 
 -- ---- what a call makes of an opening that answered o: z, where v is what comes of opening
-module _ {A : Type 0} {t r : ℕ} {v z : A} {x : ℕ → A} {f : Record → A} {o : Opened} (a : AsOpened t r v x f) (e : o ≡ opened t r) where
+module _ {A : Type 0} {t r : ℕ} {v z : A} {x : ℕ → A} {f : Record → A} {o : Opened} (a : AsOpened t r v x f) (e : o ≡ opened t r 0) where
   pub by-refusal : o .refusal ≢ 0 → z ≡ x (o .refusal) → z ≡ v
   by-refusal h y = y ∙ ap (λ (o : Opened). x (o .refusal)) e ∙ sym (a .refused (λ n. h (ap (λ (o : Opened). o .refusal) e ∙ n)))
 
@@ -30,32 +38,44 @@ module _ {A : Type 0} {t r : ℕ} {v z : A} {x : ℕ → A} {f : Record → A} {
   by-record h y = y ∙ ap (λ (o : Opened). f (o .«record»)) e ∙ sym (a .given (sym (ap (λ (o : Opened). o .refusal) e) ∙ h))
 
 -- admitted t and r are opened
-pub with-fresh : {A : Type 0} (t r : ℕ) → Admitted t r → {v : A} {x : ℕ → A} {f : Record → A} → AsOpened t r v x f → v ≡ f (fresh t r)
+pub with-fresh : {A : Type 0} (t r : ℕ) → Admitted t r → {v : A} {x : ℕ → A} {f : Record → A} → AsOpened t r v x f → v ≡ f (fresh t r 0)
 with-fresh t r ok {f = f} a =
-    a .given (ap (λ (o : Opened). o .refusal) (opens t r ok)) ∙ ap (λ (o : Opened). f (o .«record»)) (opens t r ok)
+    a .given (ap (λ (o : Opened). o .refusal) (opens t r 0 ok (zero-allowed t r ok))) ∙ ap (λ (o : Opened). f (o .«record»)) (opens t r 0 ok (zero-allowed t r ok))
 
 -- opening's refusal can be told as a signed number
-pub open-told : (t r : ℕ) {o : Opened} → o ≡ opened t r → (o .refusal < 2 ^ 31) × (o .refusal ≡ 0 → 0 < 2 ^ 31)
+pub open-told : (t r : ℕ) {o : Opened} → o ≡ opened t r 0 → (o .refusal < 2 ^ 31) × (o .refusal ≡ 0 → 0 < 2 ^ 31)
 open-told t r {o} e =
-    let b : o .refusal < numbers = subst (λ (o : Opened). o .refusal < numbers) (sym e) (open-refusal t r) in
+    let b : o .refusal < numbers = subst (λ (o : Opened). o .refusal < numbers) (sym e) (open-refusal t r 0) in
     (omega arith, (λ z. omega arith))
 
 -- ---- the first reason
 module _ (t r : ℕ) where
-  number-opened : opened t r .refusal ≡ firstReason (openReasons t r) .number
-  unfolding opened
-  number-opened = refl
+  -- 0 is allowed, so that only 1 is left of opening's reasons
+  abbrev one : List Reason
+  one = notAdmitted t (inForce t r) ∷ []
 
-  stopped : (rs : List Reason) → opened t r .refusal ≢ 0 → firstReason (callReasons t r rs) .number ≡ opened t r .refusal
+  number-opened : opened t r 0 .refusal ≡ firstReason one .number
+  number-opened = go (admits t (inForce t r)) refl
+    where
+      go : (b : Bool) → admits t (inForce t r) ≡ b → opened t r 0 .refusal ≡ firstReason one .number
+      go true y =
+          let ok = admits-admitted t (inForce t r) y in
+          ap (λ (o : Opened). o .refusal) (opened-yes t r 0 y (allowed-allows t (inForce t r) 0 (zero-allowed t (inForce t r) ok)))
+          ∙ sym (ap (λ (x : Reason). x .number) (first-no (notAdmitted t (inForce t r)) [] (ap not y) ∙ first-end))
+      go false y =
+          ap (λ (o : Opened). o .refusal) (opened-no t r 0 y)
+          ∙ sym (ap (λ (x : Reason). x .number) (first-yes (notAdmitted t (inForce t r)) [] (ap not y)))
+
+  stopped : (rs : List Reason) → opened t r 0 .refusal ≢ 0 → firstReason (callReasons t r rs) .number ≡ opened t r 0 .refusal
   stopped rs h =
-      ap (λ (x : Reason). x .number) (first-before (openReasons t r) rs (λ e. h (number-opened ∙ e))) ∙ sym number-opened
+      ap (λ (x : Reason). x .number) (first-before one rs (λ e. h (number-opened ∙ e))) ∙ sym number-opened
 
   -- neither 21 nor 22 applies to a record just opened
-  past : (rs : List Reason) → opened t r .refusal ≡ 0 → firstReason (callReasons t r rs) ≡ firstReason (stateReasons (codeFor t r) ++ rs)
+  past : (rs : List Reason) → opened t r 0 .refusal ≡ 0 → firstReason (callReasons t r rs) ≡ firstReason (stateReasons (codeFor t r) ++ rs)
   past rs e =
-      let f = subst Fit (opened-fresh t r e) (opened-fit t r e) in
-      first-past (openReasons t r) rs (accepted-none (openReasons t r) refl (sym number-opened ∙ e))
-      ∙ sym (state-past (codeFor t r) rs (fit-true (codeFor t r) f))
+      let f = subst Usable (opened-fresh t r 0 e) (opened-usable t r 0 e) in
+      first-past one rs (accepted-none one refl (sym number-opened ∙ e))
+      ∙ sym (state-past (codeFor t r) rs (usable-true (codeFor t r) f))
 
   -- what f makes of the first reason's number is x of it where opening is refused, and else what is known of the code
   made : {A : Type 0} (rs : List Reason) (f x : ℕ → A) (g : Record → A) → ((n : ℕ) → f (suc n) ≡ x (suc n))
@@ -63,8 +83,8 @@ module _ (t r : ℕ) where
       → AsOpened t r (f (firstReason (callReasons t r rs) .number)) x g
   made rs f x g same known =
       record {
-        refused = λ h. ap f (stopped rs h) ∙ positive (opened t r .refusal) h;
-        given = λ e. ap (λ (y : Reason). f (y .number)) (past rs e) ∙ known ∙ ap g (sym (opened-fresh t r e));
+        refused = λ h. ap f (stopped rs h) ∙ positive (opened t r 0 .refusal) h;
+        given = λ e. ap (λ (y : Reason). f (y .number)) (past rs e) ∙ known ∙ ap g (sym (opened-fresh t r 0 e));
       }
     where
       positive : (n : ℕ) → n ≢ 0 → f n ≡ x n
@@ -79,10 +99,27 @@ told x p = go (x .number)
     go zero = refl
     go (suc n) = refl
 
--- nor does 23 apply to a record just opened
+-- with s = 0 no place is left out
+none-left : (q : ℕ) → isLeftOut 0 q ≡ false
+none-left zero = refl
+none-left (suc q) = ap (λ (b : Bool). leb 1 (suc q) && b) (lt-leb (suc q) 0 (omega arith)) ∙ no (leb 1 (suc q))
+  where
+    no : (b : Bool) → (b && false) ≡ false
+    no true = refl
+    no false = refl
+
+-- further reasons that do not apply
+first-further : (xs ys : List Reason) → NoneApplies ys → firstReason (xs ++ ys) ≡ firstReason xs
+first-further xs [] h = ap firstReason (append-nil xs)
+first-further xs (y ∷ ys) h =
+    ap firstReason (sym (append-assoc xs (y ∷ []) ys)) ∙ first-further (xs ++ (y ∷ [])) ys (h .1) ∙ first-last xs y (h .0)
+
+-- so neither 11 nor 23 applies to a record just opened
 not-full : (t r : ℕ) (w out : List ℕ)
     → firstReason (coder.correctReasons (codeFor t r) w (length out)) ≡ firstReason (coder.writeReasons (codeFor t r) (placesIn (codeFor t r)) w (length out))
-not-full t r w out = first-last (coder.writeReasons (codeFor t r) (placesIn (codeFor t r)) w (length out)) (full (codeFor t r)) refl
+not-full t r w out =
+    first-further (coder.writeReasons (codeFor t r) (placesIn (codeFor t r)) w (length out)) (leftOut 0 (correctedOldPlaceIn (codeFor t r) w) ∷ full (codeFor t r) ∷ [])
+    (none-left (correctedOldPlaceIn (codeFor t r) w), (refl, tt))
 
 -- ---- the four calls
 pub encoded : (t r : ℕ) (m out : List ℕ) → Encoded t r m out
@@ -129,8 +166,10 @@ third t r i j =
     let rec = codeFor t r in
     record {
       answers =
-          made t r (thirdInput rec i j) (λ n. signed n (thirdIn rec i j)) (λ n. signed n 0) (thirdTold i j) (λ n. refl)
-          (told (firstReason (coder.thirdReasons rec i j)) (thirdIn rec i j));
+          made t r (placesInput rec i j) (λ n. signed n (thirdIn rec i j)) (λ n. signed n 0) (thirdTold i j) (λ n. refl)
+          (ap (λ (x : Reason). signed (x .number) (thirdIn rec i j))
+          (sym (first-further (coder.placesReasons rec i j) (leftOut 0 (thirdOldPlaceIn rec i j) ∷ []) (none-left (thirdOldPlaceIn rec i j), tt)))
+          ∙ told (firstReason (coder.thirdReasons rec i j)) (thirdIn rec i j));
     }
 
 -- ---- r = 0

@@ -1,11 +1,11 @@
 -- Document 01, "C callers": what each call for C answers and writes, for every input, by t and r. Assumes nothing.
-use mathlib.Core.List.{List, _++_}
+use mathlib.Core.List.{List, _∷_}
 use Prim.Native.Nat.{ℕ}
 use lib.ListN.{length}
 use lib.IntN.{ℤ, pos, negℤ}
 use Rattle.coder.specs.State.{fresh, placesIn, messageIn, encodedIn, correctedIn, correctedPlaceIn, combineIn, thirdIn}
-use Rattle.coder.specs.Reasons.{Reason, firstReason}
-use Rattle.coder.specs.Calls.{ifAccepted, inForce, openReasons, writeInput, combineInput, thirdInput, outputOf}
+use Rattle.coder.specs.Reasons.{Reason, firstReason, notAdmitted}
+use Rattle.coder.specs.Calls.{ifAccepted, inForce, writeInput, combineInput, placesInput, outputOf}
 use Rattle.coder.specs.declared.Record.{Record}
 
 -- "They answer 0 or the place as a signed 32-bit number, and a refusal as its negated number": of a refusal x, which is 0 where the call is
@@ -13,13 +13,14 @@ use Rattle.coder.specs.declared.Record.{Record}
 abbrev pub signed : ℕ → ℕ → ℤ
 signed x p = ifAccepted x (pos p) (negℤ (pos x))
 
--- "by t and r, with no record": the code with t and r, where "r given as 0 means r = t", as a record with nothing counted
+-- "by t and r, with no record": the code with t and r, where "r given as 0 means r = t", as a record with nothing counted; "C calls and sheet
+-- use s = 0" (request C-17)
 abbrev pub codeFor : ℕ → ℕ → Record
-codeFor t r = fresh t (inForce t r)
+codeFor t r = fresh t (inForce t r) 0
 
 -- "1. Parameters not admitted (opening, C calls, sheet)." comes first; then what may be wrong with the input
 abbrev pub callReasons : ℕ → ℕ → List Reason → List Reason
-callReasons t r input = openReasons t r ++ input
+callReasons t r input = notAdmitted t (inForce t r) ∷ input
 
 -- ---- encoding
 abbrev pub encodeReasons : ℕ → ℕ → List ℕ → ℕ → List Reason
@@ -53,7 +54,7 @@ combineOutput t r x y out = outputOf (firstReason (combineReasons t r x y (lengt
 
 -- ---- the third place
 abbrev pub thirdReasons : ℕ → ℕ → ℕ → ℕ → List Reason
-thirdReasons t r i j = callReasons t r (thirdInput (codeFor t r) i j)
+thirdReasons t r i j = callReasons t r (placesInput (codeFor t r) i j)
 
 unfoldable pub thirdAnswer : ℕ → ℕ → ℕ → ℕ → ℤ
 thirdAnswer t r i j = signed (firstReason (thirdReasons t r i j) .number) (thirdIn (codeFor t r) i j)

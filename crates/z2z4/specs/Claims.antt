@@ -12,8 +12,8 @@ use Rattle.z2z4.specs.Calls.{signed, encodeAnswer, encodeOutput, correct
 
 -- v is what comes of opening with t and r: x of the number where it is refused, else f of the record that it gives
 pub record AsOpened {A : Type 0} (t r : ℕ) (v : A) (x : ℕ → A) (f : Record → A) : Type 0 where
-  pub refused : opened t r .refusal ≢ 0 → v ≡ x (opened t r .refusal)
-  pub given : opened t r .refusal ≡ 0 → v ≡ f (opened t r .«record»)
+  pub refused : opened t r 0 .refusal ≢ 0 → v ≡ x (opened t r 0 .refusal)
+  pub given : opened t r 0 .refusal ≡ 0 → v ≡ f (opened t r 0 .«record»)
 
 -- what is told to C of the coder's answers: a refusal, or the place in correction and third place
 abbrev pub encodeTold : List ℕ → List ℕ → Record → ℤ

@@ -12,7 +12,7 @@ pub extern "C" fn z2z4_encode(t: u32, r: u32, message: &[u8], out: &mut [u8]) ->
     ensures answer { λ x. ⌜ x ≡ encodeAnswer t r (now (message .entry)) (now (out .entry)) ⌝ }
     ensures bytes { λ x. ⌜ now (out .exit) ≡ encodeOutput t r (now (message .entry)) (now (out .entry)) ⌝ }
 {
-    let o = coder::open(t, r);
+    let o = coder::open(t, r, 0);
     let x = o.refusal;
     if x != 0 {
         return answer(x, 0);
@@ -28,7 +28,7 @@ pub extern "C" fn z2z4_correct(t: u32, r: u32, word: &[u8], out: &mut [u8]) -> i
     ensures answer { λ x. ⌜ x ≡ correctAnswer t r (now (word .entry)) (now (out .entry)) ⌝ }
     ensures bytes { λ x. ⌜ now (out .exit) ≡ correctOutput t r (now (word .entry)) (now (out .entry)) ⌝ }
 {
-    let o = coder::open(t, r);
+    let o = coder::open(t, r, 0);
     let x = o.refusal;
     if x != 0 {
         return answer(x, 0);
@@ -43,7 +43,7 @@ pub extern "C" fn z2z4_combine(t: u32, r: u32, first: &[u8], second: &[u8], out:
     ensures answer { λ x. ⌜ x ≡ combineAnswer t r (now (first .entry)) (now (second .entry)) (now (out .entry)) ⌝ }
     ensures bytes { λ x. ⌜ now (out .exit) ≡ combineOutput t r (now (first .entry)) (now (second .entry)) (now (out .entry)) ⌝ }
 {
-    let o = coder::open(t, r);
+    let o = coder::open(t, r, 0);
     let x = o.refusal;
     if x != 0 {
         return answer(x, 0);
@@ -57,7 +57,7 @@ pub extern "C" fn z2z4_combine(t: u32, r: u32, first: &[u8], second: &[u8], out:
 pub extern "C" fn z2z4_third_place(t: u32, r: u32, i: u32, j: u32) -> i32
     ensures { λ x. ⌜ x ≡ thirdAnswer t r i j ⌝ }
 {
-    let o = coder::open(t, r);
+    let o = coder::open(t, r, 0);
     let x = o.refusal;
     if x != 0 {
         return answer(x, 0);

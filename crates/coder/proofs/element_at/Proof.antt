@@ -1,11 +1,9 @@
 -- `coder::element_at` meets its contract. Assumes nothing.
-use borrow.Author.Needs.{needs}
-use mathlib.Core.Path.{_≡_, sym, _∙_}
 use mathlib.Core.Logic.{inl, inr}
-use mathlib.Core.Bool.{false}
-use Rattle.coder.specs.State.{isClosed, isUnfit}
-use Rattle.coder.proofs.States.{state-fit}
-use Rattle.coder.proofs.Answers.{element-state, element-outside, element-inside, shape-places, shape-element}
+use mathlib.Core.Path.{sym, _∙_}
+use borrow.Author.Needs.{needs}
+use Rattle.coder.proofs.Answers.{element-state, element-outside, element-inside, shape-places, shape-still, shape-element}
+use Rattle.coder.proofs.States.{Open, state-open}
 use Rattle.coder.proofs.element_at.Statement.{statement}
 use Rattle.coder.proofs.element_at.Tie as tie
 
@@ -26,16 +24,18 @@ shape-of-requires c κs = search needs
 refused-element-requires-2 : tie.Need-refused-element-requires-2
 refused-element-requires-2 c κs = search needs
 
--- past the first test the record is open and fit
-past : (c : tie.Else1)
-    → (isClosed (c .before .before .args .«record») ≡ false) × (isUnfit (c .before .before .args .«record») ≡ false)
-past c = state-fit (c .before .before .args .«record») (sym (c .before .state .ensures) ∙ c .if1 .left)
+-- past the first test the record is usable
+past : (c : tie.Else1) → Open (c .before .before .args .«record»)
+past c = state-open (c .before .before .args .«record») (sym (c .before .state .ensures) ∙ c .if1 .left)
 
 returns-2 : tie.Need-returns-2
 returns-2 c =
     let q = c .before .before .before in
     let g = q .before .before .args in
     c .refused-element2 .ensures ∙ sym (element-outside (g .«record») (past q) (g .place) (inl (c .before .if2 .taken)))
+
+sub-if3 : tie.Need-sub-if3
+sub-if3 c = shape-still _ (past (c .before .before)) _ (c .before .shape-of .ensures) .0
 
 refused-element-requires-3 : tie.Need-refused-element-requires-3
 refused-element-requires-3 c κs = search needs
@@ -47,6 +47,9 @@ returns-3 c =
     let g = q .before .before .args in
     let n = shape-places (g .«record») (past q) (h .shape-of .result) (h .shape-of .ensures) in
     c .refused-element3 .ensures ∙ sym (element-outside (g .«record») (past q) (g .place) (inr (rw (← n) (c .before .if3 .taken))))
+
+add-element-at : tie.Need-add-element-at
+add-element-at c = search needs
 
 element-at-requires : tie.Need-element-at-requires
 element-at-requires c κs = search needs
@@ -60,7 +63,7 @@ returns-4 c =
     let q = h .before in
     let g = q .before .before .args in
     let n = shape-places (g .«record») (past q) (h .shape-of .result) (h .shape-of .ensures) in
-    let x = c .number-of .ensures ∙ shape-element (g .«record») (past q) (h .shape-of .result) (h .shape-of .ensures) (g .place) _ (c .before .element-at .ensures) in
+    let x = c .number-of .ensures ∙ shape-element (g .«record») (past q) (h .shape-of .result) (h .shape-of .ensures) (g .place) _ (c .before .before .before .if2 .left) (c .before .element-at .ensures) in
     rw x
     (sym (element-inside (g .«record») (past q) (g .place) (c .before .before .before .if2 .left) (rw (← n) (c .before .before .if3 .left))))
 
@@ -74,8 +77,10 @@ element-at-spec =
     shape-of-requires
     refused-element-requires-2
     returns-2
+    sub-if3
     refused-element-requires-3
     returns-3
+    add-element-at
     element-at-requires
     number-of-requires
     returns-4)

@@ -2,13 +2,11 @@
 use borrow.Author.Needs.{needs}
 use borrow.Author.Tests.{eq-eqb, ne-eqb}
 use mathlib.Core.Path.{_≡_, sym, ap, _∙_}
-use mathlib.Core.Bool.{false}
 use mathlib.Core.List.{[], _∷_}
 use Prim.Native.Nat.{ℕ}
-use Rattle.coder.specs.State.{isClosed, isUnfit}
 use Rattle.coder.specs.Reasons.{Reason, outside, equalPlaces}
 use Rattle.coder.proofs.Firsts.{first-yes, first-no, first-end}
-use Rattle.coder.proofs.States.{state-number, state-fit, state-past}
+use Rattle.coder.proofs.States.{Open, state-number, state-open, state-past}
 use Rattle.coder.proofs.Outcomes.{outside-by}
 use Rattle.coder.proofs.check.places.Statement.{statement}
 use Rattle.coder.proofs.check.places.Tie as tie
@@ -28,8 +26,8 @@ returns c =
 
 -- past the first test the record is open and fit
 past : (c : tie.Else1)
-    → (isClosed (c .before .before .args .«record») ≡ false) × (isUnfit (c .before .before .args .«record») ≡ false)
-past c = state-fit (c .before .before .args .«record») (sym (c .before .state .ensures) ∙ c .if1 .left)
+    → Open (c .before .before .args .«record»)
+past c = state-open (c .before .before .args .«record») (sym (c .before .state .ensures) ∙ c .if1 .left)
 
 -- what the two tests found
 first-test : (c : tie.After-is-outside) → c .is-outside .result ≡ outside (c .before .before .before .before .args .«record») (c .before .before .before .before .args .i) .applies

@@ -2,17 +2,17 @@
 use borrow.Author.Needs.{needs}
 use borrow.Author.Tests.{eq-eqb, ne-eqb, lt-ltb, le-ltb}
 use mathlib.Core.Path.{_≡_, sym, ap, _∙_}
-use mathlib.Core.Bool.{false, not}
+use mathlib.Core.Bool.{not}
 use mathlib.Core.List.{List, _∷_, _++_}
 use Prim.Native.Nat.{ℕ, _<_, _≤_}
 use native.Mathlib.Omega.{arith}
-use Rattle.coder.specs.State.{isClosed, isUnfit, placesIn}
+use Rattle.coder.specs.State.{placesIn}
 use Rattle.coder.specs.Reasons.{Reason, firstReason, wrongLength, shortOutput}
 use Rattle.coder.specs.Calls.{stateReasons, answerOf, wordLength}
 use Rattle.coder.specs.declared.Record.{Record}
 use Rattle.coder.proofs.Firsts.{first-yes, first-no}
-use Rattle.coder.proofs.States.{state-fit, state-past}
-use Rattle.coder.proofs.Answers.{fit-length}
+use Rattle.coder.proofs.States.{Open, state-open, state-past}
+use Rattle.coder.proofs.Answers.{usable-length}
 use Rattle.coder.proofs.Outcomes.{state-answer}
 use Rattle.coder.proofs.check.two.Statement.{statement}
 use Rattle.coder.proofs.check.two.Tie as tie
@@ -30,8 +30,8 @@ returns c =
 abbrev given : tie.Else1 → Record
 given c = c .before .before .before .before .args .«record»
 
-open-fit : (c : tie.Else1) → (isClosed (given c) ≡ false) × (isUnfit (given c) ≡ false)
-open-fit c = state-fit (given c) (sym (c .before .state .ensures) ∙ c .if1 .left)
+open-fit : (c : tie.Else1) → Open (given c)
+open-fit c = state-open (given c) (sym (c .before .state .ensures) ∙ c .if1 .left)
 
 lengths-requires : tie.Need-lengths-requires
 lengths-requires c κs = search needs
@@ -42,7 +42,7 @@ n c = placesIn (given (c .before))
 
 length-is : (c : tie.After-lengths) → c .lengths .result .places ≡ n c
 unfolding wordLength
-length-is c = c .lengths .ensures .0 ∙ fit-length (given (c .before)) (n c) (open-fit (c .before))
+length-is c = c .lengths .ensures .0 ∙ usable-length (given (c .before)) (n c) (open-fit (c .before))
 
 cast-n : tie.Need-cast-n
 cast-n c = search needs

@@ -7,8 +7,8 @@ use Rattle.coder.proofs.count.counted.Tie as tie
 width-requires : tie.Need-width-requires
 width-requires c κs = search needs
 
-add-t10 : tie.Need-add-t10
-add-t10 c = search needs
+add-t11 : tie.Need-add-t11
+add-t11 c = search needs
 
 add-requires : tie.Need-add-requires
 add-requires c κs = search needs
@@ -26,4 +26,4 @@ returns c =
 
 pub counted-spec : {M : Type 1} → statement M
 counted-spec =
-    tie.close (tie.spec width-requires add-t10 add-requires add-requires-2 add-requires-3 returns)
+    tie.close (tie.spec width-requires add-t11 add-requires add-requires-2 add-requires-3 returns)

@@ -1,13 +1,10 @@
--- `coder::fit::lengths` meets its contract: the shape of the record's parameters, or that of none. Assumes nothing.
+-- `coder::fit::lengths` meets its contract: the lengths of the record's shape without the s places that are left out, or 0. Assumes nothing.
+use mathlib.Core.Path.{sym, _∙_}
 use borrow.Author.Needs.{needs}
-use mathlib.Core.Path.{sym, ap, _∙_}
-use Rattle.layout.specs.Parameters.{admits}
-use Rattle.layout.specs.Calls.{shapeFor}
-use Rattle.layout.specs.declared.Shape.{Shape}
-use Rattle.coder.specs.State.{placesIn, messageIn}
 use Rattle.coder.specs.Calls.{wordLength, messageLength}
-use Rattle.coder.proofs.States.{state-fit}
-use Rattle.coder.proofs.Answers.{shape-places, shape-message, fit-length, unfit-length}
+use Rattle.coder.specs.State.{placesIn, messageIn}
+use Rattle.coder.proofs.Answers.{shape-places, shape-message, shape-still, usable-length, unusable-length}
+use Rattle.coder.proofs.States.{Open, state-open}
 use Rattle.coder.proofs.fit.lengths.Statement.{statement}
 use Rattle.coder.proofs.fit.lengths.Tie as tie
 
@@ -17,32 +14,35 @@ state-requires c κs = search needs
 shape-of-requires : tie.Need-shape-of-requires
 shape-of-requires c κs = search needs
 
+-- past the test the record is usable
+open-fit : (c : tie.Then1) → Open (c .before .before .args .«record»)
+open-fit c = state-open (c .before .before .args .«record») (sym (c .before .state .ensures) ∙ c .if1 .taken)
+
+sub-t8 : tie.Need-sub-t8
+sub-t8 c = shape-still _ (open-fit (c .before .before)) _ (c .before .shape-of .ensures) .0
+
+sub-t9 : tie.Need-sub-t9
+sub-t9 c = shape-still _ (open-fit (c .before .before .before)) _ (c .before .before .shape-of .ensures) .1
+
 returns : tie.Need-returns
 unfolding wordLength messageLength
 returns c =
-    let q = c .before in
-    let g = q .before .before .args .«record» in
-    let f = state-fit g (sym (q .before .state .ensures) ∙ q .if1 .taken) in
-    let s = c .shape-of .result in
-    let e = c .shape-of .ensures in (
-      shape-places g f s e ∙ sym (fit-length g (placesIn g) f),
-      shape-message g f s e ∙ sym (fit-length g (messageIn g) f),
+    let h = c .before .before in
+    let f = open-fit (h .before) in
+    let g = h .before .before .before .args .«record» in (
+      shape-places g f _ (h .shape-of .ensures) ∙ sym (usable-length g (placesIn g) f),
+      shape-message g f _ (h .shape-of .ensures) ∙ sym (usable-length g (messageIn g) f),
     )
 
-shape-of-requires-2 : tie.Need-shape-of-requires-2
-shape-of-requires-2 c κs = search needs
-
 returns-2 : tie.Need-returns-2
-unfolding wordLength messageLength shapeFor admits
+unfolding wordLength messageLength
 returns-2 c =
-    let q = c .before in
-    let g = q .before .before .args .«record» in
-    let k = q .before .state in
-    let e = c .shape-of2 .ensures in (
-      ap (λ (x : Shape). x .places) e ∙ sym (unfit-length g (placesIn g) (k .result) (k .ensures) (q .if1 .left)),
-      ap (λ (x : Shape). x .message) e ∙ sym (unfit-length g (messageIn g) (k .result) (k .ensures) (q .if1 .left)),
+    let k = c .before .state in
+    let g = c .before .before .args .«record» in (
+      sym (unusable-length g (placesIn g) (k .result) (k .ensures) (c .if1 .left)),
+      sym (unusable-length g (messageIn g) (k .result) (k .ensures) (c .if1 .left)),
     )
 
 pub lengths-spec : {M : Type 1} → statement M
 lengths-spec =
-    tie.close (tie.spec state-requires shape-of-requires returns shape-of-requires-2 returns-2)
+    tie.close (tie.spec state-requires shape-of-requires sub-t8 sub-t9 returns returns-2)

@@ -1,10 +1,12 @@
 -- `coder::fit::state` meets its contract. Assumes nothing.
-use borrow.Author.Needs.{needs}
-use borrow.Author.Tests.{eq-eqb, ne-eqb}
-use mathlib.Core.Path.{sym, ap, _∙_}
 use mathlib.Core.List.{[]}
+use mathlib.Core.Path.{sym, ap, _∙_}
 use Prim.Native.Nat.{ℕ}
-use Rattle.coder.specs.Reasons.{Reason, closed, unfit}
+use borrow.Author.Tests.{eq-eqb, ne-eqb}
+use borrow.Author.Needs.{needs}
+use Rattle.layout.proofs.Parameters.{admitted-admits}
+use Rattle.coder.specs.Reasons.{Reason, closed, unfit, notAllowed}
+use Rattle.coder.proofs.States.{true-fit}
 use Rattle.coder.proofs.Firsts.{first-yes, first-no, first-end}
 use Rattle.coder.proofs.fit.state.Statement.{statement}
 use Rattle.coder.proofs.fit.state.Tie as tie
@@ -24,15 +26,31 @@ returns-2 c =
     let g = q .before .args .«record» in
     sym
     (ap numberOf
-    (first-no (closed g) _ (ne-eqb _ _ (q .if1 .left)) ∙ first-yes (unfit g) [] (sym (c .before .unfit .ensures) ∙ c .if2 .taken)))
+    (first-no (closed g) _ (ne-eqb _ _ (q .if1 .left)) ∙ first-yes (unfit g) _ (sym (c .before .unfit .ensures) ∙ c .if2 .taken)))
+
+not-allowed-requires : tie.Need-not-allowed-requires
+not-allowed-requires c κs = admitted-admits _ _ (true-fit _ (sym (c .before .unfit .ensures) ∙ c .if2 .left) .admitted)
 
 returns-3 : tie.Need-returns-3
 returns-3 c =
-    let q = c .before .before in
+    let e = c .before .before in
+    let q = e .before .before in
     let g = q .before .args .«record» in
     sym
     (ap numberOf
-    (first-no (closed g) _ (ne-eqb _ _ (q .if1 .left)) ∙ first-no (unfit g) [] (sym (c .before .unfit .ensures) ∙ c .if2 .left) ∙ first-end))
+    (first-no (closed g) _ (ne-eqb _ _ (q .if1 .left)) ∙ first-no (unfit g) _ (sym (e .before .unfit .ensures) ∙ e .if2 .left)
+    ∙ first-yes (notAllowed (g .t) (g .r) (g .s)) [] (sym (c .before .not-allowed .ensures) ∙ c .if3 .taken)))
+
+returns-4 : tie.Need-returns-4
+returns-4 c =
+    let e = c .before .before in
+    let q = e .before .before in
+    let g = q .before .args .«record» in
+    sym
+    (ap numberOf
+    (first-no (closed g) _ (ne-eqb _ _ (q .if1 .left)) ∙ first-no (unfit g) _ (sym (e .before .unfit .ensures) ∙ e .if2 .left)
+    ∙ first-no (notAllowed (g .t) (g .r) (g .s)) [] (sym (c .before .not-allowed .ensures) ∙ c .if3 .left) ∙ first-end))
 
 pub state-spec : {M : Type 1} → statement M
-state-spec = tie.close (tie.spec returns unfit-requires returns-2 returns-3)
+state-spec =
+    tie.close (tie.spec returns unfit-requires returns-2 not-allowed-requires returns-3 returns-4)

@@ -1,0 +1,153 @@
+-- What the calls answer, by their tests. Assumes nothing.
+use mathlib.Core.Path.{_≡_, sym, ap, _∙_}
+use mathlib.Core.Bool.{Bool, true, false, _&&_}
+use mathlib.Core.List.{List, _++_}
+use Prim.Native.Nat.{ℕ, _+_, _-_, _≤_}
+use native.Mathlib.Omega.{arith}
+use borrow.Author.Tests.{eq-eqb, le-leb, leb-true}
+use lib.Dec.{eqb, leb}
+use lib.ListN.{length, drop}
+use Rattle.group.specs.Group.{moduli, zeros}
+use Rattle.group.proofs.Signs.{both}
+use Rattle.layout.specs.Parameters.{placesOf, messageOf, binaryOf, quaternaryOf, moduliFor}
+use Rattle.layout.specs.Layout.{slots}
+use Rattle.layout.proofs.Parameters.{admitted-admits, zeros-for}
+use Rattle.words.specs.Words as words
+use Rattle.words.specs.Coding as coding
+use Rattle.words.specs.Calls as calls
+use Rattle.shortened.specs.Code.{fill, syndrome, encode, combine, inverse}
+use Rattle.shortened.specs.Calls.{allowedFor, fitsWord, fitsMessage, syndromeFor, faultFor, encodeFor, combineFor, invertFor}
+use Rattle.shortened.proofs.Guards.{word-fits, message-fits}
+use Rattle.shortened.proofs.Filled.{syndrome-filled, fault-filled}
+
+-- ---- tests
+word-allowed : (t r s k : ℕ) → fitsWord t r s k ≡ true → allowedFor t r s ≡ true
+unfolding fitsWord
+word-allowed t r s k e = both (allowedFor t r s) (eqb k (placesOf t - s)) e .0
+
+message-allowed : (t r s k : ℕ) → fitsMessage t r s k ≡ true → allowedFor t r s ≡ true
+unfolding fitsMessage
+message-allowed t r s k e = both (allowedFor t r s) (eqb k (messageOf t - s)) e .0
+
+room-by : (t r s room : ℕ) (b : Bool) → allowedFor t r s ≡ true → (allowedFor t r s && leb (placesOf t - s) room) ≡ b → leb (placesOf t - s) room ≡ b
+room-by t r s room b y e = ap (λ (a : Bool). a && leb (placesOf t - s) room) (sym y) ∙ e
+
+-- ---- the syndrome and the place at fault
+module _ (t r s : ℕ) (w : List ℕ) (y : fitsWord t r s (length w) ≡ true) where
+  pub syndrome-else : syndrome (moduliFor t r) s w ≡ syndromeFor t r s w
+  unfolding syndromeFor
+  syndrome-else = rw y
+
+  pub syndrome-whole : s ≡ 0 → calls.syndromeFor t r w ≡ syndromeFor t r s w
+  syndrome-whole e = ap (λ (k : ℕ). calls.syndromeFor t r (fill k w)) (sym e) ∙ syndrome-filled t r s w (word-fits t r s (length w) y) ∙ syndrome-else
+
+  pub fault-else : calls.fault (moduliFor t r) (fill s w) ≡ faultFor t r s w
+  unfolding faultFor
+  fault-else = rw y
+
+  pub fault-whole : s ≡ 0 → calls.faultFor t r w ≡ faultFor t r s w
+  fault-whole e = ap (λ (k : ℕ). calls.faultFor t r (fill k w)) (sym e) ∙ fault-filled t r s w (word-fits t r s (length w) y) ∙ fault-else
+
+pub syndrome-none : (t r s : ℕ) (w : List ℕ) → fitsWord t r s (length w) ≡ false → zeros (moduli 0 0) ≡ syndromeFor t r s w
+unfolding syndromeFor
+syndrome-none t r s w y = rw y (zeros-for 0 0 (binaryOf t r) (quaternaryOf t r))
+
+pub fault-none : (t r s : ℕ) (w : List ℕ) → fitsWord t r s (length w) ≡ false → 0 ≡ faultFor t r s w
+unfolding faultFor
+fault-none t r s w y = rw y
+
+-- ---- outputs
+less-none : (n : ℕ) → n - 0 ≡ n
+less-none n = omega arith
+
+module _ (t r s : ℕ) (m old : List ℕ) where
+  pub encode-none : fitsMessage t r s (length m) ≡ false → old ≡ encodeFor t r s m old
+  unfolding encodeFor
+  encode-none y = rw y
+
+  module _ (y : fitsMessage t r s (length m) ≡ true) where
+    pub encode-narrow : (allowedFor t r s && leb (placesOf t - s) (length old)) ≡ false → old ≡ encodeFor t r s m old
+    unfolding encodeFor
+    encode-narrow e = rw (y, room-by t r s (length old) false (message-allowed t r s (length m) y) e)
+
+    module _ (e : (allowedFor t r s && leb (placesOf t - s) (length old)) ≡ true) where
+      pub encode-room : placesOf t - s ≤ length old
+      encode-room = leb-true (placesOf t - s) (length old) (room-by t r s (length old) true (message-allowed t r s (length m) y) e)
+
+      pub encode-else : encode (moduliFor t r) s m ++ drop (placesOf t - s) old ≡ encodeFor t r s m old
+      unfolding encodeFor
+      encode-else = rw (y, room-by t r s (length old) true (message-allowed t r s (length m) y) e)
+
+      pub encode-whole : s ≡ 0 → calls.encodeFor t r m old ≡ encodeFor t r s m old
+      unfolding calls.encodeFor encode
+      encode-whole z =
+          let f = message-fits t r s (length m) y in
+          let a = f .all in
+          let g = encode-room in
+          rw (admitted-admits t r (f .admitted), eq-eqb (length m) (messageOf t) (omega arith), le-leb (placesOf t) (length old) (omega arith))
+          (ap (λ (k : ℕ). coding.encode (moduliFor t r) m ++ drop k old) (sym (less-none (placesOf t)))
+          ∙ ap (λ (k : ℕ). encode (moduliFor t r) k m ++ drop (placesOf t - k) old) (sym z) ∙ encode-else)
+
+module _ (t r s : ℕ) (w old : List ℕ) where
+  pub invert-none : fitsWord t r s (length w) ≡ false → old ≡ invertFor t r s w old
+  unfolding invertFor
+  invert-none y = rw y
+
+  module _ (y : fitsWord t r s (length w) ≡ true) where
+    pub invert-narrow : (allowedFor t r s && leb (placesOf t - s) (length old)) ≡ false → old ≡ invertFor t r s w old
+    unfolding invertFor
+    invert-narrow e = rw (y, room-by t r s (length old) false (word-allowed t r s (length w) y) e)
+
+    module _ (e : (allowedFor t r s && leb (placesOf t - s) (length old)) ≡ true) where
+      pub word-space : placesOf t - s ≤ length old
+      word-space = leb-true (placesOf t - s) (length old) (room-by t r s (length old) true (word-allowed t r s (length w) y) e)
+
+      pub invert-else : inverse (moduliFor t r) s w ++ drop (placesOf t - s) old ≡ invertFor t r s w old
+      unfolding invertFor
+      invert-else = rw (y, room-by t r s (length old) true (word-allowed t r s (length w) y) e)
+
+      pub invert-whole : s ≡ 0 → calls.invertFor t r w old ≡ invertFor t r s w old
+      unfolding calls.invertFor inverse
+      invert-whole z =
+          let f = word-fits t r s (length w) y in
+          let a = f .all in
+          let g = word-space in
+          rw (admitted-admits t r (f .admitted), le-leb (placesOf t) (length w) (omega arith), le-leb (placesOf t) (length old) (omega arith))
+          (ap (λ (k : ℕ). words.inverse (slots (moduliFor t r)) w ++ drop k old) (sym (less-none (placesOf t)))
+          ∙ ap (λ (k : ℕ). inverse (moduliFor t r) k w ++ drop (placesOf t - k) old) (sym z) ∙ invert-else)
+
+module _ (t r s : ℕ) (x w old : List ℕ) where
+  pub combine-none : fitsWord t r s (length x) ≡ false → old ≡ combineFor t r s x w old
+  unfolding combineFor
+  combine-none y = rw y
+
+  module _ (v : fitsWord t r s (length x) ≡ true) where
+    pub combine-second : fitsWord t r s (length w) ≡ false → old ≡ combineFor t r s x w old
+    unfolding combineFor
+    combine-second y = rw (v, y)
+
+    module _ (y : fitsWord t r s (length w) ≡ true) where
+      pub combine-narrow : (allowedFor t r s && leb (placesOf t - s) (length old)) ≡ false → old ≡ combineFor t r s x w old
+      unfolding combineFor
+      combine-narrow e = rw (v, y, room-by t r s (length old) false (word-allowed t r s (length w) y) e)
+
+      module _ (e : (allowedFor t r s && leb (placesOf t - s) (length old)) ≡ true) where
+        pub combine-else : combine (moduliFor t r) s x w ++ drop (placesOf t - s) old ≡ combineFor t r s x w old
+        unfolding combineFor
+        combine-else = rw (v, y, room-by t r s (length old) true (word-allowed t r s (length w) y) e)
+
+        pub combine-whole : s ≡ 0 → calls.combineFor t r x w old ≡ combineFor t r s x w old
+        unfolding calls.combineFor combine
+        combine-whole z =
+            let f = word-fits t r s (length w) y in
+            let a = f .all in
+            let b = word-fits t r s (length x) v .all in
+            let g = word-space t r s w old y e in
+            rw (
+              admitted-admits t r (f .admitted),
+              le-leb (placesOf t) (length x) (omega arith),
+              le-leb (placesOf t) (length w) (omega arith),
+              le-leb (placesOf t) (length old) (omega arith),
+            )
+            (ap (λ (k : ℕ). words.combine (slots (moduliFor t r)) x w ++ drop k old) (sym (less-none (placesOf t)))
+            ∙ ap (λ (k : ℕ). combine (moduliFor t r) k x w ++ drop (placesOf t - k) old) (sym z) ∙ combine-else)

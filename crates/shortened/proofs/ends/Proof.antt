@@ -1,0 +1,20 @@
+-- `shortened::ends` meets its contract. Assumes nothing.
+use borrow.Author.Tests.{le-leb, lt-leb, eq-eqb, ne-eqb}
+use borrow.Author.Needs.{needs}
+use Rattle.shortened.proofs.ends.Statement.{statement}
+use Rattle.shortened.proofs.ends.Tie as tie
+
+returns : tie.Need-returns
+returns c = rw (le-leb _ _ (c .if1 .taken))
+
+sub-if2 : tie.Need-sub-if2
+sub-if2 c = search needs
+
+returns-2 : tie.Need-returns-2
+returns-2 c = rw (lt-leb _ _ (c .before .if1 .left), eq-eqb _ _ (c .if2 .taken))
+
+returns-3 : tie.Need-returns-3
+returns-3 c = rw (lt-leb _ _ (c .before .if1 .left), ne-eqb _ _ (c .if2 .left))
+
+pub ends-spec : {M : Type 1} → statement M
+ends-spec = tie.close (tie.spec returns sub-if2 returns-2 returns-3)

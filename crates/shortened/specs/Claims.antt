@@ -1,0 +1,122 @@
+-- What the theorems on shortened codes say, for any list of moduli and any s that ends between two slots of its message; proofs/ shows each of
+-- them. Assumes nothing.
+use mathlib.Core.Path.{_≡_}
+use mathlib.Core.Logic.{_≢_, _↔_}
+use mathlib.Core.List.{List, [], _++_}
+use Prim.Native.Nat.{ℕ, _+_, _-_, _<_, _≤_}
+use lib.ListN.{length, take, drop}
+use Rattle.group.specs.Group.{Modulus, sum, negative}
+use Rattle.layout.specs.Parameters.{placesOf, messageOf, moduliFor}
+use Rattle.layout.specs.Layout.{Slot, message, slots, places}
+use Rattle.layout.specs.Layout as layout
+use Rattle.words.specs.Words.{Word, zeroWord, flip, distance, weight}
+use Rattle.words.specs.Words as words
+use Rattle.words.specs.Syndrome.{lengthOf}
+use Rattle.words.specs.Syndrome as syndromes
+use Rattle.words.specs.Halves as halves
+use Rattle.words.specs.Claims.{messageLengthOf}
+use Rattle.words.specs.Coding.{onesAt}
+use Rattle.words.specs.Coding as coding
+use Rattle.shortened.specs.Code.{fill, oldPlace, LeftOut, Codeword, encode, combine, inverse, correctedOldPlace, corrected, correctedPlace, thirdOldPlace, third, moved}
+use Rattle.shortened.specs.Code as shortened
+
+-- s ends between two slots of the message, so not within a pair, and one of them is kept. For admitted t and r these are the allowed s
+-- (`allowed-between`)
+pub record EndsBetween (ms : List Modulus) (s : ℕ) : Type 0 where
+  pub gone : List Slot
+  pub kept : List Slot
+  pub whole : message ms ≡ gone ++ kept
+  pub ends : length (places ms gone) ≡ s
+  pub stays : kept ≢ []
+
+-- with s = 0 the shortened code is the code
+pub record WholeOf (ms : List Modulus) : Type 0 where
+  pub codeword : (w : List ℕ) → Codeword ms 0 w ↔ syndromes.Codeword ms w
+  pub syndrome : (w : List ℕ) → shortened.syndrome ms 0 w ≡ syndromes.syndrome ms w
+  pub element : (p : ℕ) → shortened.elementAt ms 0 p ≡ layout.elementAt ms p
+  pub encode : (m : List ℕ) → encode ms 0 m ≡ coding.encode ms m
+  pub combine : (x y : List ℕ) → combine ms 0 x y ≡ words.combine (slots ms) x y
+  pub inverse : (w : List ℕ) → inverse ms 0 w ≡ words.inverse (slots ms) w
+  pub corrected : (w : List ℕ) → corrected ms 0 w ≡ coding.corrected ms w
+  pub place : (w : List ℕ) → correctedPlace ms 0 w ≡ coding.correctedPlace ms w
+  pub third : (i j : ℕ) → third ms 0 i j ≡ coding.third ms i j
+  pub width : (p : ℕ) → shortened.width ms 0 p ≡ halves.width (slots ms) p
+  pub other : (p : ℕ) → shortened.otherHalf ms 0 p ≡ halves.otherHalf (slots ms) p
+  pub moved : (d : List ℕ) (p : ℕ) → moved ms 0 d p ≡ halves.moved (slots ms) d p
+  pub leftOut : (q : ℕ) → LeftOut 0 q → ⊥
+
+-- (a) filling and dropping are inverse to each other on words whose first s places are 0
+pub record Fills (s : ℕ) : Type 0 where
+  pub dropped : (w : List ℕ) → drop s (fill s w) ≡ w
+  pub filled : (w : List ℕ) → take s w ≡ zeroWord s → fill s (drop s w) ≡ w
+
+-- (b) combining, inverse and flipping are those of the filled words: nothing but zeros is dropped
+pub record Commutes (ms : List Modulus) (s : ℕ) : Type 0 where
+  pub combines : (x y : List ℕ) → fill s (combine ms s x y) ≡ words.combine (slots ms) (fill s x) (fill s y)
+  pub inverts : (w : List ℕ) → fill s (inverse ms s w) ≡ words.inverse (slots ms) (fill s w)
+  pub flips : (p : ℕ) (w : List ℕ) → fill s (flip p w) ≡ flip (oldPlace s p) (fill s w)
+
+-- so that combining is an abelian group law on the words of n − s bits, the syndrome a homomorphism to the group of elements, the word with a
+-- single 1 at place p has the element of p, and the codewords are closed
+pub record GroupOf (ms : List Modulus) (s : ℕ) : Type 0 where
+  pub closed : (x y : List ℕ) → Word (lengthOf ms - s) x → Word (lengthOf ms - s) y → Word (lengthOf ms - s) (combine ms s x y)
+  pub commutes : (x y : List ℕ) → combine ms s x y ≡ combine ms s y x
+  pub associates : (x y z : List ℕ) → combine ms s (combine ms s x y) z ≡ combine ms s x (combine ms s y z)
+  pub neutral : (x : List ℕ) → Word (lengthOf ms - s) x → combine ms s x (zeroWord (lengthOf ms - s)) ≡ x
+  pub inverts : (x : List ℕ) → Word (lengthOf ms - s) x
+      → Word (lengthOf ms - s) (inverse ms s x) × (combine ms s x (inverse ms s x) ≡ zeroWord (lengthOf ms - s))
+  pub adds : (x y : List ℕ) → Word (lengthOf ms - s) x → Word (lengthOf ms - s) y
+      → shortened.syndrome ms s (combine ms s x y) ≡ sum ms (shortened.syndrome ms s x) (shortened.syndrome ms s y)
+  pub negates : (x : List ℕ) → Word (lengthOf ms - s) x → shortened.syndrome ms s (inverse ms s x) ≡ negative ms (shortened.syndrome ms s x)
+  pub ones : (p : ℕ) → p ≤ lengthOf ms - s → shortened.syndrome ms s (flip p (zeroWord (lengthOf ms - s))) ≡ shortened.elementAt ms s p
+  pub sums : (x y : List ℕ) → Codeword ms s x → Codeword ms s y → Codeword ms s (combine ms s x y)
+
+-- (c), (d) at most one codeword is within one place of w. There is one exactly where the code's correction of the filled word does not fall in
+-- a left-out place, and then it is that, and the place is that, renumbered
+pub record NearestTo (ms : List Modulus) (s : ℕ) (w : List ℕ) : Type 0 where
+  pub only : (c : List ℕ) → Codeword ms s c → distance c w ≤ 1 → c ≡ corrected ms s w
+  pub none : LeftOut s (correctedOldPlace ms s w) → (c : List ℕ) → Codeword ms s c → distance c w ≤ 1 → ⊥
+  pub codeword : (LeftOut s (correctedOldPlace ms s w) → ⊥) → Codeword ms s (corrected ms s w)
+  pub near : (LeftOut s (correctedOldPlace ms s w) → ⊥) → distance (corrected ms s w) w ≤ 1
+  -- the place told: flipped there, w is that codeword, and flipped at any other place it is none; flipped at place 0 it is w itself
+  pub renumbered : (LeftOut s (correctedOldPlace ms s w) → ⊥) → oldPlace s (correctedPlace ms s w) ≡ correctedOldPlace ms s w
+  pub within : correctedPlace ms s w ≤ lengthOf ms - s
+  pub flipped : (LeftOut s (correctedOldPlace ms s w) → ⊥) → corrected ms s w ≡ flip (correctedPlace ms s w) w
+  pub place : (p : ℕ) → p ≤ lengthOf ms - s → Codeword ms s (flip p w)
+      → (LeftOut s (correctedOldPlace ms s w) → ⊥) × (p ≡ correctedPlace ms s w)
+
+-- (e) encoding gives the one codeword that begins with the message
+pub record EncodingOf (ms : List Modulus) (s : ℕ) (m : List ℕ) : Type 0 where
+  pub codeword : Codeword ms s (encode ms s m)
+  pub begins : take (messageLengthOf ms - s) (encode ms s m) ≡ m
+  pub only : (c : List ℕ) → Codeword ms s c → take (messageLengthOf ms - s) c ≡ m → c ≡ encode ms s m
+
+-- (f) combining with a codeword d carries correction along, and w has a codeword within one place exactly where d combined with w has
+pub record CarriedBy (ms : List Modulus) (s : ℕ) (d w : List ℕ) : Type 0 where
+  pub both : LeftOut s (correctedOldPlace ms s (combine ms s d w)) ↔ LeftOut s (correctedOldPlace ms s w)
+  pub corrects : (LeftOut s (correctedOldPlace ms s w) → ⊥) → corrected ms s (combine ms s d w) ≡ combine ms s d (corrected ms s w)
+  pub place : (LeftOut s (correctedOldPlace ms s w) → ⊥) → correctedPlace ms s (combine ms s d w) ≡ moved ms s d (correctedPlace ms s w)
+
+-- k makes a codeword of weight 3 with i and j; at most one does, and one does exactly where the code's third place is not left out
+pub record ThreeAt (ms : List Modulus) (s i j k : ℕ) : Type 0 where
+  pub least : 0 < k
+  pub most : k ≤ lengthOf ms - s
+  pub codeword : Codeword ms s (onesAt (lengthOf ms - s) i j k)
+  pub weighs : weight (onesAt (lengthOf ms - s) i j k) ≡ 3
+
+pub record ThirdOf (ms : List Modulus) (s i j : ℕ) : Type 0 where
+  pub makes : (LeftOut s (thirdOldPlace ms s i j) → ⊥) → ThreeAt ms s i j (third ms s i j)
+  pub only : (k : ℕ) → ThreeAt ms s i j k → (LeftOut s (thirdOldPlace ms s i j) → ⊥) × (k ≡ third ms s i j)
+  pub symmetric : third ms s i j ≡ third ms s j i
+
+-- all of it for the code with t and r shortened by s: words of n − s bits and messages of n − t − s
+pub record ShortenedOf (t r s : ℕ) : Type 0 where
+  pub fills : Fills s
+  pub commutes : Commutes (moduliFor t r) s
+  pub groups : GroupOf (moduliFor t r) s
+  pub nearest : (w : List ℕ) → Word (placesOf t - s) w → NearestTo (moduliFor t r) s w
+  pub encodes : (m : List ℕ) → Word (messageOf t - s) m → EncodingOf (moduliFor t r) s m
+  pub encoded : (c : List ℕ) → Codeword (moduliFor t r) s c
+      → Word (messageOf t - s) (take (messageOf t - s) c) × (c ≡ encode (moduliFor t r) s (take (messageOf t - s) c))
+  pub carries : (d w : List ℕ) → Codeword (moduliFor t r) s d → Word (placesOf t - s) w → CarriedBy (moduliFor t r) s d w
+  pub thirds : (i j : ℕ) → 0 < i → i ≤ placesOf t - s → 0 < j → j ≤ placesOf t - s → i ≢ j → ThirdOf (moduliFor t r) s i j

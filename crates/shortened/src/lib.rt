@@ -1,0 +1,198 @@
+// Shortened codes, with no record (request C-17): the first s places of a message are fixed at 0 and
+// left out. Every input is answered; nothing is done where t and r are not admitted, s is not allowed,
+// a word or a message is not of its length, or an output is too short (specs/Calls.antt). With s = 0
+// crate words does the work on the caller's own bytes; else on the word filled with s zeros (fill.rt).
+mod fill;
+
+ghost use mathlib.Core.Path.{_≡_};
+ghost use mathlib.Core.Bool.{_&&_};
+ghost use Prim.Native.Nat.{_-_};
+ghost use lib.Dec.{leb, ltb};
+ghost use Rattle.layout.specs.Parameters.{placesOf};
+ghost use Rattle.shortened.specs.Allowed.{endsWhole};
+ghost use Rattle.shortened.specs.Code.{isLeftOut};
+ghost use Rattle.shortened.specs.Calls.{allowedFor, fitsWord, fitsMessage, syndromeFor, faultFor, encodeFor, combineFor, invertFor, widthFor, thirdFor};
+use group::Element;
+
+// Whether t and r are admitted and s is allowed with them.
+pub fn allowed(t: u32, r: u32, s: u32) -> bool
+    ensures { λ x. ⌜ x ≡ allowedFor t r s ⌝ }
+{
+    if layout::admitted(t, r) {
+        let h = layout::shape_of(t, r);
+        let a = h.a as u32;
+        let part = h.binary - a;
+        return ends(part, h.message, s);
+    }
+    false
+}
+
+// Whether s ends inside part 1, at its end or after a whole pair, and a message place stays.
+fn ends(part: u32, message: u32, s: u32) -> bool
+    ensures { λ x. ⌜ x ≡ (endsWhole part s && ltb s message) ⌝ }
+{
+    if s <= part {
+        return s < message;
+    }
+    if (s - part) % 2 == 0 {
+        return s < message;
+    }
+    false
+}
+
+// Whether a place, by the number that it had before renumbering, is one of the s that are left out.
+pub fn is_left_out(s: u32, place: u32) -> bool
+    ensures { λ x. ⌜ x ≡ isLeftOut s place ⌝ }
+{
+    if place == 0 { false } else { place <= s }
+}
+
+// Whether so many bytes are those of a word, and of a message.
+fn fits_word(t: u32, r: u32, s: u32, count: usize) -> bool
+    ensures { λ x. ⌜ x ≡ fitsWord t r s count ⌝ }
+{
+    if allowed(t, r, s) {
+        let h = layout::shape_of(t, r);
+        return count == (h.places - s) as usize;
+    }
+    false
+}
+
+fn fits_message(t: u32, r: u32, s: u32, count: usize) -> bool
+    ensures { λ x. ⌜ x ≡ fitsMessage t r s count ⌝ }
+{
+    if allowed(t, r, s) {
+        let h = layout::shape_of(t, r);
+        return count == (h.message - s) as usize;
+    }
+    false
+}
+
+// Whether an output has room for a word.
+fn has_room(t: u32, r: u32, s: u32, room: usize) -> bool
+    ensures { λ x. ⌜ x ≡ (allowedFor t r s && leb (placesOf t - s) room) ⌝ }
+{
+    if allowed(t, r, s) {
+        let h = layout::shape_of(t, r);
+        return (h.places - s) as usize <= room;
+    }
+    false
+}
+
+// The syndrome of a word; zero where it is none of the code.
+pub fn syndrome(t: u32, r: u32, s: u32, word: &[u8]) -> Element
+    ensures { λ x. ⌜ x ≡ syndromeFor t r s (now (word .entry)) ⌝ }
+{
+    if fits_word(t, r, s, word.len()) {
+        if s == 0 {
+            return words::syndrome(t, r, word);
+        }
+        return fill::syndrome(t, r, s, word);
+    }
+    group::zero(0, 0)
+}
+
+// The place at fault in the filled word, by the number that it had before renumbering; 0 for a
+// codeword, and where the word is none of the code.
+pub fn fault(t: u32, r: u32, s: u32, word: &[u8]) -> u32
+    ensures { λ x. ⌜ x ≡ faultFor t r s (now (word .entry)) ⌝ }
+{
+    if fits_word(t, r, s, word.len()) {
+        if s == 0 {
+            return words::fault(t, r, word);
+        }
+        return fill::fault(t, r, s, word);
+    }
+    0
+}
+
+// Encodes a message into the front of an output.
+pub fn encode(t: u32, r: u32, s: u32, message: &[u8], out: &mut [u8])
+    ensures { λ x. ⌜ now (out .exit) ≡ encodeFor t r s (now (message .entry)) (now (out .entry)) ⌝ }
+{
+    if fits_message(t, r, s, message.len()) {
+        if has_room(t, r, s, out.len()) {
+            if s == 0 {
+                words::encode(t, r, message, out);
+                return;
+            }
+            fill::encode(t, r, s, message, out);
+            return;
+        }
+    }
+}
+
+// Two words combined, at the front of an output.
+pub fn combine(t: u32, r: u32, s: u32, first: &[u8], second: &[u8], out: &mut [u8])
+    ensures { λ x. ⌜ now (out .exit) ≡ combineFor t r s (now (first .entry)) (now (second .entry)) (now (out .entry)) ⌝ }
+{
+    if fits_word(t, r, s, first.len()) {
+        if fits_word(t, r, s, second.len()) {
+            if has_room(t, r, s, out.len()) {
+                if s == 0 {
+                    words::combine(t, r, first, second, out);
+                    return;
+                }
+                fill::combine(t, r, s, first, second, out);
+                return;
+            }
+        }
+    }
+}
+
+// The inverse of a word, at the front of an output.
+pub fn invert(t: u32, r: u32, s: u32, word: &[u8], out: &mut [u8])
+    ensures { λ x. ⌜ now (out .exit) ≡ invertFor t r s (now (word .entry)) (now (out .entry)) ⌝ }
+{
+    if fits_word(t, r, s, word.len()) {
+        if has_room(t, r, s, out.len()) {
+            if s == 0 {
+                words::invert(t, r, word, out);
+                return;
+            }
+            fill::invert(t, r, s, word, out);
+            return;
+        }
+    }
+}
+
+// 1 for a binary place, 2 for a place of a pair; 0 where there is no such place.
+pub fn width(t: u32, r: u32, s: u32, place: u32) -> u32
+    ensures { λ x. ⌜ x ≡ widthFor t r s place ⌝ }
+{
+    if allowed(t, r, s) {
+        if place == 0 {
+            return 0;
+        }
+        let h = layout::shape_of(t, r);
+        if h.places - s < place {
+            return 0;
+        }
+        return words::width(t, r, place + s);
+    }
+    0
+}
+
+// The third place of two places, by the number that it had before renumbering; 0 where they are not
+// two places.
+pub fn third(t: u32, r: u32, s: u32, i: u32, j: u32) -> u32
+    ensures { λ x. ⌜ x ≡ thirdFor t r s i j ⌝ }
+{
+    if allowed(t, r, s) {
+        let h = layout::shape_of(t, r);
+        let n = h.places - s;
+        if is_place(n, i) {
+            if is_place(n, j) {
+                return words::third(t, r, i + s, j + s);
+            }
+        }
+    }
+    0
+}
+
+// Whether p is one of n places.
+fn is_place(n: u32, p: u32) -> bool
+    ensures { λ x. ⌜ x ≡ (leb 1 p && leb p n) ⌝ }
+{
+    if p == 0 { false } else { p <= n }
+}
