@@ -29,7 +29,7 @@ fn layout(t: u32, r: u32) {
     text(b"\n");
 }
 
-fn elements(code: Record, n: u32) {
+pub(crate) fn elements(code: Record, n: u32) {
     let mut p: u32 = 0;
     while p < n {
         p += 1;
@@ -39,7 +39,7 @@ fn elements(code: Record, n: u32) {
 }
 
 // element record place: refusal place element
-fn element(code: Record, place: u32) {
+pub(crate) fn element(code: Record, place: u32) {
     text(b"element");
     record(code);
     number(place);
@@ -51,8 +51,8 @@ fn element(code: Record, place: u32) {
     text(b"\n");
 }
 
-// lengths record: n, n - t
-fn lengths(code: Record) {
+// lengths record: n - s, n - t - s
+pub(crate) fn lengths(code: Record) {
     text(b"lengths");
     record(code);
     text(b":");

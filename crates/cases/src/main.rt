@@ -1,11 +1,13 @@
-// Document 01's executed cases and more: one line each, the input, a colon, and the answer, under a line
-// that names the group. The README's example prints its results alone.
+// Document 01's executed cases, those of request C-17, and more: one line each, the input, a colon, and the
+// answer, under a line that names the group. The README's example prints its results alone.
 mod combinations;
 mod corrections;
 mod layouts;
+mod left_out;
 mod lines;
 mod on_words;
 mod print;
+mod shortenings;
 
 fn main() {
     layouts::openings();
@@ -37,4 +39,15 @@ fn main() {
     combinations::states();
     combinations::orders();
     combinations::along();
+    shortenings::allowed();
+    shortenings::not_allowed();
+    shortenings::layouts();
+    shortenings::states();
+    left_out::words();
+    left_out::other_codes();
+    left_out::corrections();
+    left_out::thirds();
+    left_out::orders();
+    left_out::full();
+    left_out::run();
 }

@@ -1,10 +1,13 @@
 // A line for each call: its name, its answer, and what became of its output. The output holds sevens
 // before the call, and no call writes a seven, so that a byte that was written shows. `room` is the
-// number of its bytes.
+// number of its bytes. Where s is 0, the calls for C are made, of those that there are for C; the calls for
+// C have no s, and in a shortened code the coder's are made.
 use crate::alter::all;
 use crate::alter::at;
 use crate::alter::front;
 use coder::Answer;
+use coder::Corrected;
+use coder::Opened;
 use coder::Record;
 ghost use Prim.Native.Nat.{_<_};
 
@@ -54,14 +57,26 @@ fn taken(a: i32) -> Answer {
     }
 }
 
-// The answer as C has it.
+// The answer as C has it, and after it the place in a refusal, which C is not told.
 fn told(refusal: u32, place: u32) {
     if refusal == 0 {
         number(place);
-    } else {
-        text(b" -");
-        io::print_decimal(1, refusal as u64);
+        return;
     }
+    text(b" -");
+    io::print_decimal(1, refusal as u64);
+    if place != 0 {
+        text(b" at");
+        number(place);
+    }
+}
+
+pub(crate) fn counts(code: Record) {
+    text(b" counts");
+    number(code.words);
+    number(code.clean);
+    number(code.corrected_binary);
+    number(code.corrected_pairs);
 }
 
 // The digit of the four places from index i on, the earlier place the higher bit. The remainders change
@@ -117,20 +132,32 @@ fn kept(out: &[u8]) {
     }
 }
 
-// The answer and the output of a call.
-fn outcome(code: Record, a: Answer, out: &[u8]) {
+// The answer and the output of a call, and the counts where it counted: no code's record has any before.
+fn outcome(code: Record, a: Corrected, out: &[u8]) {
     let refusal = a.refusal;
+    let after = a.record;
     told(refusal, a.place);
     if refusal == 0 {
         written(out, coder::word_length(code) as usize);
     } else {
         kept(out);
     }
+    if after.words != 0 {
+        counts(after);
+    }
     text(b"\n");
 }
 
+fn called(call: Call, code: Record, first: &[u8], second: &[u8], out: &mut [u8]) -> Corrected {
+    let s = code.s;
+    if s == 0 {
+        return same(code, by_c(call, code, first, second, out));
+    }
+    by_coder(call, code, first, second, out)
+}
+
 // Only combining reads the second word.
-fn called(call: Call, code: Record, first: &[u8], second: &[u8], out: &mut [u8]) -> Answer {
+fn by_c(call: Call, code: Record, first: &[u8], second: &[u8], out: &mut [u8]) -> Answer {
     let t = code.t;
     let r = code.r;
     match call {
@@ -138,6 +165,24 @@ fn called(call: Call, code: Record, first: &[u8], second: &[u8], out: &mut [u8])
         Call::Correct => taken(z2z4::z2z4_correct(t, r, first, out)),
         Call::Combine => taken(z2z4::z2z4_combine(t, r, first, second, out)),
         Call::Inverse => coder::invert(code, first, out),
+    }
+}
+
+fn by_coder(call: Call, code: Record, first: &[u8], second: &[u8], out: &mut [u8]) -> Corrected {
+    match call {
+        Call::Encode => same(code, coder::encode(code, first, out)),
+        Call::Correct => coder::correct(code, first, out),
+        Call::Combine => same(code, coder::combine(code, first, second, out)),
+        Call::Inverse => same(code, coder::invert(code, first, out)),
+    }
+}
+
+// The answer of a call that leaves the record as it is.
+fn same(code: Record, a: Answer) -> Corrected {
+    Corrected {
+        refusal: a.refusal,
+        place: a.place,
+        record: code,
     }
 }
 
@@ -192,10 +237,43 @@ pub(crate) fn read(code: Record, word: &[u8]) {
 }
 
 pub(crate) fn third(code: Record, i: u32, j: u32) {
-    let a = taken(z2z4::z2z4_third_place(code.t, code.r, i, j));
+    let a = third_of(code, i, j);
     text(b"third");
     told(a.refusal, a.place);
     text(b"\n");
+}
+
+fn third_of(code: Record, i: u32, j: u32) -> Answer {
+    let s = code.s;
+    if s == 0 {
+        return taken(z2z4::z2z4_third_place(code.t, code.r, i, j));
+    }
+    coder::third_place(code, i, j)
+}
+
+// What an opening gave: t, the r in force, s and the lengths, or the refusal.
+pub(crate) fn opening(t: u32, r: u32, s: u32, o: Opened) {
+    text(b"open");
+    number(t);
+    number(r);
+    number(s);
+    let refusal = o.refusal;
+    if refusal == 0 {
+        lengths(o.record);
+    } else {
+        text(b" refused");
+        number(refusal);
+    }
+    text(b"\n");
+}
+
+fn lengths(code: Record) {
+    text(b" code");
+    number(code.t);
+    number(code.r);
+    number(code.s);
+    number(coder::word_length(code));
+    number(coder::message_length(code));
 }
 
 pub(crate) fn syndrome(code: Record, word: &[u8]) {

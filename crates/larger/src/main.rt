@@ -1,13 +1,17 @@
-// Every opening with t from 0 to 11 and r from 0 to 12, and three rounds of calls on drawn words in each
-// code that is admitted, up to 1,023 places. The file `stdout` beside src/ was written by a second
-// program, which shares no code with the engine: that this program prints the same text is the check.
+// Every opening with t from 0 to 11 and r from 0 to 12. For each code that is admitted, up to 1,023 places,
+// three rounds of calls on drawn words, and rounds in some of its shortened codes; then every word of the
+// short codes. The file `stdout` beside src/ was written by a second program, which shares no code with the
+// engine: that this program prints the same text is the check.
 mod alter;
+mod digest;
 mod draw;
+mod every;
 mod lines;
+mod openings;
 mod round;
+mod shorter;
 
-use crate::lines::number;
-use crate::lines::text;
+use crate::round::buffered;
 use coder::Record;
 ghost use Prim.Native.Nat.{_≤_};
 
@@ -17,6 +21,7 @@ fn main() {
         with_each_r(t);
         t += 1;
     }
+    every::words();
 }
 
 fn with_each_r(t: u32)
@@ -33,54 +38,21 @@ fn with_each_r(t: u32)
 fn open(t: u32, r: u32)
     requires { ⌜ (t ≤ 11) × (r ≤ 12) ⌝ }
 {
+    openings::with_each_s(t, r);
     let o = coder::open(t, r, 0);
-    let refusal = o.refusal;
-    text(b"open");
-    number(t);
-    number(r);
-    if refusal != 0 {
-        text(b" refused");
-        number(refusal);
-        text(b"\n");
+    lines::opening(t, r, 0, o);
+    // r = 0 stands for r = t, whose rounds come under that r.
+    if r == 0 {
         return;
     }
-    let code = o.record;
-    lengths(code);
-    // r = 0 stands for r = t, whose rounds come under that r.
-    if r != 0 {
-        rounds(code, 1 + 100 * t + r);
+    if o.refusal == 0 {
+        rounds(o.record, 1 + 100 * t + r);
     }
-}
-
-// The code that was opened: t, the r in force, and its lengths.
-fn lengths(code: Record) {
-    text(b" code");
-    number(code.t);
-    number(code.r);
-    number(coder::word_length(code));
-    number(coder::message_length(code));
-    text(b"\n");
 }
 
 fn rounds(code: Record, start: u32) {
     let x = buffered(code, start);
     let y = buffered(code, x);
-    buffered(code, y);
-}
-
-// A round with buffers for the longest words, cut to the lengths of the code.
-fn buffered(code: Record, x: u32) -> u32 {
-    let mut m = [0u8; 1023];
-    let mut w = [0u8; 1023];
-    let mut out = [7u8; 1025];
-    let n = coder::word_length(code) as usize;
-    let k = coder::message_length(code) as usize;
-    // No code is longer; the tests spare a proof of it.
-    if 1023 < n {
-        return x;
-    }
-    if 1023 < k {
-        return x;
-    }
-    round::round(code, x, &mut m[..k], &mut w[..n], &mut out[..n + 2])
+    let z = buffered(code, y);
+    shorter::rounds(code, z);
 }

@@ -1,6 +1,6 @@
-// One round: the calls on words drawn anew. Each function takes the state of the generator and gives
-// the state after its draws. m is the message, with k places; c its codeword and w any word, with n
-// places; room the bytes of an output, two more than n, to show that they are kept.
+// One round: the calls on words drawn anew, in a code that may be shortened. Each function takes the state
+// of the generator and gives the state after its draws. m is the message, with k places; c its codeword and
+// w any word, with n places; room the bytes of an output, two more than n, to show that they are kept.
 use crate::alter::flip;
 use crate::alter::front;
 use crate::alter::longer;
@@ -20,8 +20,25 @@ use crate::lines::syndrome;
 use crate::lines::third;
 use coder::Record;
 
+// A round with buffers for the longest words, cut to the lengths of the code.
+pub(crate) fn buffered(code: Record, x: u32) -> u32 {
+    let mut m = [0u8; 1023];
+    let mut w = [0u8; 1023];
+    let mut out = [7u8; 1025];
+    let n = coder::word_length(code) as usize;
+    let k = coder::message_length(code) as usize;
+    // No code is longer; the tests spare a proof of it.
+    if 1023 < n {
+        return x;
+    }
+    if 1023 < k {
+        return x;
+    }
+    round(code, x, &mut m[..k], &mut w[..n], &mut out[..n + 2])
+}
+
 // `out` is the output for the codeword, and holds sevens.
-pub(crate) fn round(code: Record, start: u32, m: &mut [u8], w: &mut [u8], out: &mut [u8]) -> u32 {
+fn round(code: Record, start: u32, m: &mut [u8], w: &mut [u8], out: &mut [u8]) -> u32 {
     let x = word(start, m);
     encode_to(code, m, out);
     let n = w.len();

@@ -71,7 +71,7 @@ struct Turn {
 
 impl Programs {
     pub fn of(t: u32, r: u32) -> Option<Programs> {
-        let second = Code::open(t, r).ok()?;
+        let second = Code::open(t, r, 0).ok()?;
         let table = Table::prepare(t, r);
         let libraries = COPIES.map(|calls| Library { t, r, calls }).into();
         Some(Programs {

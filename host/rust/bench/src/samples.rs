@@ -124,7 +124,7 @@ mod tests {
     #[test]
     fn binary_places_are_told_from_pairs() {
         let pairs = (2..=10).flat_map(|t| (2..=t).map(move |r| (t, r)));
-        for code in pairs.filter_map(|(t, r)| Code::open(t, r).ok()) {
+        for code in pairs.filter_map(|(t, r)| Code::open(t, r, 0).ok()) {
             for index in 0..code.length() {
                 let mut word = vec![0; code.length()];
                 let mut twice = word.clone();

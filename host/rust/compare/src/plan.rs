@@ -13,7 +13,7 @@ pub struct Plan {
 impl Plan {
     pub fn new() -> Plan {
         let pairs = (0..=12).flat_map(|t| (1..=12).map(move |r| (t, r)));
-        let codes = pairs.filter_map(|(t, r)| Code::open(t, r).ok());
+        let codes = pairs.filter_map(|(t, r)| Code::open(t, r, 0).ok());
         Plan {
             codes: codes.collect(),
             cells: cells(),

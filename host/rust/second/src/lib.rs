@@ -4,6 +4,9 @@
 //! This second program is there to be compared with the engine, so it shares no code or table
 //! with it: it has only the paper's array, sums over it and searches in it. Parameters,
 //! element numbers, order of places and refusals are those of document 01.
+//!
+//! A shortened code has the array without its first s entries, and everything else follows
+//! from that array: lengths, places, pairs, and which elements are missing.
 
 #![forbid(unsafe_code)]
 
@@ -14,11 +17,11 @@ mod layout;
 mod paper;
 mod word;
 
-use group::{Element, Group};
+use group::{Element, Group, ZERO};
 use word::Digit;
 
-/// Why a call was refused, by document 01's number. `place` is 0 except for number 4, where
-/// it is the lowest place with a byte above 1.
+/// Why a call was refused, by the number of document 01, or 10 and 11 of request C-17.
+/// `place` is 0 except for number 4, where it is the lowest place with a byte above 1.
 #[derive(Debug, Clone, Copy, PartialEq, Eq)]
 pub struct Refusal {
     pub number: u32,
@@ -39,28 +42,30 @@ pub fn signed(answer: Result<u32, Refusal>) -> i32 {
     }
 }
 
-/// A code, opened. Refused calls write nothing; accepted ones write the first n bytes.
+/// A code, opened. Refused calls write nothing; accepted ones write a word at the front.
 #[derive(Debug, Clone)]
 pub struct Code {
     t: u32,
     r: u32,
+    s: u32,
     group: Group,
-    /// The image of each unit vector, in the order of places.
+    /// The image of each unit vector, in the order of places, without those left out.
     images: Vec<Element>,
     /// Read off the array once, to know which places form pairs.
     digits: Vec<Digit>,
 }
 
 impl Code {
-    /// Opens the code of t and r; r = 0 means r = t.
-    pub fn open(t: u32, r: u32) -> Result<Code, Refusal> {
+    /// Opens the code of t and r with the first s places left out; r = 0 means r = t.
+    pub fn open(t: u32, r: u32, s: u32) -> Result<Code, Refusal> {
         let r = if r == 0 { t } else { r };
         if !(2..=10).contains(&t) || !(2..=t).contains(&r) || t > 2 * r {
             return Err(Refusal::of(1));
         }
         let group = Group::new((2 * r - t) as usize, (t - r) as usize);
         let images = layout::images(&group);
-        Ok(Code::from_images(t, r, group, images))
+        let whole = Code::from_images(t, r, group, images);
+        whole.shortened(s)
     }
 
     /// The code of an array that has the paper's four parts; the order within parts 1 and 2
@@ -70,10 +75,24 @@ impl Code {
         Code {
             t,
             r,
+            s: 0,
             group,
             images,
             digits,
         }
+    }
+
+    /// A whole code's array without its first s entries. A message place has to stay, and a
+    /// digit has to begin with the first place that stays: no pair is cut in two.
+    fn shortened(self, s: u32) -> Result<Code, Refusal> {
+        let left_out = s as usize;
+        let begins = |digit: &Digit| digit.first_place() == left_out;
+        if left_out >= self.message_length() || !self.digits.iter().any(begins) {
+            return Err(Refusal::of(10));
+        }
+        let images = self.images[left_out..].to_vec();
+        let shorter = Code::from_images(self.t, self.r, self.group, images);
+        Ok(Code { s, ..shorter })
     }
 
     pub fn t(&self) -> u32 {
@@ -85,12 +104,17 @@ impl Code {
         self.r
     }
 
-    /// n, the number of places of a word.
+    /// How many message places are left out.
+    pub fn s(&self) -> u32 {
+        self.s
+    }
+
+    /// n - s, the number of places of a word.
     pub fn length(&self) -> usize {
         self.images.len()
     }
 
-    /// n - t, the number of places of a message.
+    /// n - t - s, the number of places of a message.
     pub fn message_length(&self) -> usize {
         self.length() - self.t as usize
     }
@@ -126,12 +150,13 @@ impl Code {
         Ok(())
     }
 
-    /// The decoding algorithm, VI-B. Answers the place that changes, 0 for none.
+    /// The decoding algorithm, VI-B. Answers the place that changes, 0 for none; refused with
+    /// 11 where that place is left out.
     pub fn correct(&self, word: &[u8], out: &mut [u8]) -> Result<u32, Refusal> {
         self.check_word(word)?;
         self.check_room(out)?;
         check_bytes(word)?;
-        let codeword = self.nearest(word);
+        let codeword = self.nearest(word)?;
         self.write(&codeword, out);
         Ok(place_of_change(word, &codeword))
     }
@@ -164,16 +189,17 @@ impl Code {
         }
     }
 
-    /// The place that makes a codeword of weight 3 with i and j. The word with 1 at i and j
-    /// is within one place of a codeword, which so has weight 1, 2 or 3; the minimum distance
-    /// leaves only 3, so correction adds the third place.
+    /// The place that makes a codeword of weight 3 with i and j. In the whole code the word
+    /// with 1 at i and j is within one place of a codeword, which so has weight 1, 2 or 3; the
+    /// minimum distance leaves only 3, so correction adds the third place, or is refused with
+    /// 11 where that is left out.
     pub fn third_place(&self, i: u32, j: u32) -> Result<u32, Refusal> {
         let places = [self.index(i)?, self.index(j)?];
         if i == j {
             return Err(Refusal::of(6));
         }
         let two = word::with_ones(self.length(), &places);
-        Ok(place_of_change(&two, &self.nearest(&two)))
+        Ok(place_of_change(&two, &self.nearest(&two)?))
     }
 
     /// The sum of digit times image: the paper's representation of the word, with the digit
@@ -183,18 +209,20 @@ impl Code {
         self.group.sum(self.digits.iter().map(term))
     }
 
-    /// VI-B, steps 1 to 3: the codeword within one place of y.
-    fn nearest(&self, y: &[u8]) -> Vec<u8> {
+    /// VI-B, steps 1 to 3: the codeword within one place of y. The paper's array has every
+    /// element but zero. Where it is shortened, a syndrome may be missing from it; the digit
+    /// to change is then one of those left out, and no codeword is near. A pair has both its
+    /// images in the array or neither, so it does not matter which half would change.
+    fn nearest(&self, y: &[u8]) -> Result<Vec<u8>, Refusal> {
         let syndrome = self.image_of(y);
-        match self.images.iter().position(|image| *image == syndrome) {
-            // Only zero is missing from the array.
-            None => y.to_vec(),
-            Some(j) => {
-                let e_j = word::with_ones(self.length(), &[j]);
-                let inverse = word::invert(&self.digits, &e_j);
-                word::combine(&self.digits, y, &inverse)
-            }
+        if syndrome == ZERO {
+            return Ok(y.to_vec());
         }
+        let found = self.images.iter().position(|image| *image == syndrome);
+        let j = found.ok_or(Refusal::of(11))?;
+        let e_j = word::with_ones(self.length(), &[j]);
+        let inverse = word::invert(&self.digits, &e_j);
+        Ok(word::combine(&self.digits, y, &inverse))
     }
 
     fn write(&self, word: &[u8], out: &mut [u8]) {

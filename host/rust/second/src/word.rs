@@ -1,8 +1,8 @@
 //! The paper's operation `*` on words: binary places modulo 2, pairs modulo 4 through the
 //! Gray map.
 //!
-//! Assumes words of n bytes, each 0 or 1; the callers have refused all others. Places are
-//! indexed from 0 here.
+//! Assumes words of the code's length, each byte 0 or 1; the callers have refused all
+//! others. Places are indexed from 0 here.
 
 use crate::group::{Element, Group};
 
@@ -17,6 +17,13 @@ pub enum Digit {
 }
 
 impl Digit {
+    pub fn first_place(self) -> usize {
+        match self {
+            Digit::Binary(place) => place,
+            Digit::Pair(first, _) => first,
+        }
+    }
+
     /// The place whose unit vector has the value 1 as this digit.
     pub fn place_of_1(self) -> usize {
         match self {

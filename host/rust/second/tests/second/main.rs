@@ -6,18 +6,21 @@ mod cases;
 mod expected;
 mod large;
 mod refusals;
+mod shortened;
 mod small;
 
 use second::{Code, Refusal};
 
 fn open(t: u32, r: u32) -> Code {
-    Code::open(t, r).expect("admitted")
+    Code::open(t, r, 0).expect("admitted")
 }
 
 /// Every code that opens with r given, by rising t, then r.
 fn codes() -> Vec<Code> {
     let pairs = (0..=12).flat_map(|t| (1..=12).map(move |r| (t, r)));
-    pairs.filter_map(|(t, r)| Code::open(t, r).ok()).collect()
+    pairs
+        .filter_map(|(t, r)| Code::open(t, r, 0).ok())
+        .collect()
 }
 
 /// The element numbers of all places.
@@ -30,6 +33,10 @@ fn layout(code: &Code) -> Vec<u32> {
 /// A word from its places as document 01 writes them.
 fn word(places: &str) -> Vec<u8> {
     places.bytes().map(|place| place - b'0').collect()
+}
+
+fn all_words(length: usize) -> impl Iterator<Item = Vec<u8>> {
+    (0..1u32 << length).map(move |bits| (0..length).map(|i| (bits >> i & 1) as u8).collect())
 }
 
 /// The word with one place, counted from 1, flipped.

@@ -44,7 +44,7 @@ fn opening() {
         (10, u32::MAX),
         (10, 1 << 31),
     ] {
-        assert_eq!(reason(Code::open(t, r)), (1, 0), "({t}, {r})");
+        assert_eq!(reason(Code::open(t, r, 0)), (1, 0), "({t}, {r})");
     }
 }
 

@@ -1,6 +1,6 @@
 //! Every word, message and pair of places of the six codes with n <= 15.
 
-use super::{codes, combine, correct, encode, flipped, invert};
+use super::{all_words, codes, combine, correct, encode, flipped, invert};
 use second::Code;
 
 fn small_codes() -> Vec<Code> {
@@ -8,10 +8,6 @@ fn small_codes() -> Vec<Code> {
     small.retain(|code| code.length() <= 15);
     assert_eq!(small.len(), 6);
     small
-}
-
-fn all_words(length: usize) -> impl Iterator<Item = Vec<u8>> {
-    (0..1u32 << length).map(move |bits| (0..length).map(|i| (bits >> i & 1) as u8).collect())
 }
 
 fn is_codeword(code: &Code, word: &[u8]) -> bool {

@@ -1,6 +1,6 @@
-//! How words, answers and outputs are shown.
+//! How openings, words, answers and outputs are shown.
 
-use second::{signed, Refusal};
+use second::{signed, Code, Refusal};
 
 /// What every byte of an output is set to before a call.
 pub const FILL: u8 = 7;
@@ -24,6 +24,30 @@ fn hexadecimal_digit(places: &[u8]) -> char {
     char::from(b"0123456789abcdef"[usize::from(value)])
 }
 
+/// The line of an opening: t, the r in force, s and the lengths, or the refusal.
+pub fn opening(t: u32, r: u32, s: u32) -> String {
+    let shown = match Code::open(t, r, s) {
+        Ok(code) => format!(
+            "code {} {} {} {} {}",
+            code.t(),
+            code.r(),
+            code.s(),
+            code.length(),
+            code.message_length()
+        ),
+        Err(refusal) => format!("refused {}", refusal.number),
+    };
+    format!("open {t} {r} {s} {shown}\n")
+}
+
+/// The answer as C has it, and after it the place in a refusal, where one is told.
+fn told(answer: Result<u32, Refusal>) -> String {
+    match answer {
+        Err(Refusal { number, place }) if place != 0 => format!("-{number} at {place}"),
+        _ => signed(answer).to_string(),
+    }
+}
+
 /// The answer of a call and what it left in its output, for words of n places.
 pub fn outcome(answer: Result<u32, Refusal>, output: &[u8], n: usize) -> String {
     let filled = |bytes: &[u8]| bytes.iter().all(|&byte| byte == FILL);
@@ -33,7 +57,7 @@ pub fn outcome(answer: Result<u32, Refusal>, output: &[u8], n: usize) -> String 
         Ok(_) if filled(&output[n..]) => hexadecimal(&output[..n]),
         Ok(_) => hexadecimal(&output[..n]) + " altered",
     };
-    format!("{} {shown}", signed(answer))
+    format!("{} {shown}", told(answer))
 }
 
 #[cfg(test)]
@@ -42,8 +66,15 @@ mod tests {
 
     const REFUSED: Result<u32, Refusal> = Err(Refusal {
         number: 4,
-        place: 2,
+        place: 0,
     });
+
+    #[test]
+    fn openings() {
+        assert_eq!(opening(3, 2, 1), "open 3 2 1 code 3 2 1 6 3\n");
+        assert_eq!(opening(4, 0, 0), "open 4 0 0 code 4 4 0 15 11\n");
+        assert_eq!(opening(3, 2, 3), "open 3 2 3 refused 10\n");
+    }
 
     #[test]
     fn words_in_hexadecimal() {
@@ -64,5 +95,10 @@ mod tests {
         assert_eq!(outcome(REFUSED, &[7, 7, 7], 3), "-4 untouched");
         assert_eq!(outcome(REFUSED, &[7, 0, 7], 3), "-4 altered");
         assert_eq!(outcome(REFUSED, &[], 3), "-4 untouched");
+        let told = REFUSED.map_err(|refusal| Refusal {
+            place: 2,
+            ..refusal
+        });
+        assert_eq!(outcome(told, &[7, 7, 7], 3), "-4 at 2 untouched");
     }
 }

@@ -1,8 +1,14 @@
 //! Writes to standard output what the engine's program `larger` has to print: every opening
-//! for t = 0..11 and r = 0..12 and, for each code, three rounds of calls on drawn words.
+//! for t = 0..11 and r = 0..12; for each code three rounds of calls on drawn words, and
+//! rounds in some of its shortened codes; then every word of the short codes.
 
+mod counts;
+mod digest;
+mod every;
 mod lines;
+mod openings;
 mod round;
+mod shorter;
 
 use round::Round;
 use second::draw::Draw;
@@ -17,26 +23,25 @@ fn expected() -> String {
     let mut text = String::new();
     for t in 0..=11 {
         for r in 0..=12 {
-            text += &opening(t, r);
+            text += &openings::with_each_s(t, r);
+            text += &lines::opening(t, r, 0);
+            // r = 0 opens a code that has its rounds under r = t.
+            if r != 0 {
+                text += &rounds(t, r);
+            }
         }
     }
-    text
+    text + &every::words()
 }
 
-/// The line of one opening, with the rounds of its code. r = 0 opens a code that has its
-/// rounds under r = t.
-fn opening(t: u32, r: u32) -> String {
-    let code = match Code::open(t, r) {
-        Ok(code) => code,
-        Err(refusal) => return format!("open {t} {r} refused {}\n", refusal.number),
+fn rounds(t: u32, r: u32) -> String {
+    let Ok(code) = Code::open(t, r, 0) else {
+        return String::new();
     };
-    let (n, k) = (code.length(), code.message_length());
-    let mut text = format!("open {t} {r} code {} {} {n} {k}\n", code.t(), code.r());
-    if r != 0 {
-        let mut draw = Draw::from_state(1 + 100 * t + r);
-        for _ in 0..3 {
-            text += &Round::run(&code, &mut draw);
-        }
+    let mut draw = Draw::from_state(1 + 100 * t + r);
+    let mut text = String::new();
+    for _ in 0..3 {
+        text += &Round::run(&code, &mut draw);
     }
-    text
+    text + &shorter::rounds(&code, &mut draw)
 }

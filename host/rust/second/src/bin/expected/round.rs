@@ -1,6 +1,8 @@
 //! One round of calls on one code. The order of the draws is part of what is compared: the
-//! program `larger` makes the same draws in the same order.
+//! program `larger` makes the same draws in the same order. Where s is 0 it makes the calls
+//! for C, which tell no place in a refusal and have no counts.
 
+use crate::counts::Counts;
 use crate::lines::{hexadecimal, outcome, FILL};
 use second::draw::Draw;
 use second::{signed, Code, Refusal};
@@ -122,9 +124,30 @@ impl Round<'_> {
         F: FnOnce(&Code, &mut [u8]) -> Result<u32, Refusal>,
     {
         let mut output = vec![FILL; room];
-        let answer = call(self.code, &mut output);
-        self.line(format!("{name} {}", outcome(answer, &output, self.n)));
+        let mut answer = call(self.code, &mut output);
+        if self.code.s() == 0 {
+            answer = answer.map_err(|refusal| Refusal {
+                place: 0,
+                ..refusal
+            });
+        }
+        let counted = match (name, answer) {
+            ("correct", Ok(place)) => self.counted(place),
+            _ => String::new(),
+        };
+        let shown = outcome(answer, &output, self.n);
+        self.line(format!("{name} {shown}{counted}"));
         output
+    }
+
+    /// The counts of a record after one correction.
+    fn counted(&self, place: u32) -> String {
+        if self.code.s() == 0 {
+            return String::new();
+        }
+        let mut counts = Counts::default();
+        counts.count(self.code, place);
+        format!(" {counts}")
     }
 
     fn encode(&mut self, message: &[u8], room: usize) -> Vec<u8> {

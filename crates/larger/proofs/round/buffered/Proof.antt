@@ -1,9 +1,9 @@
--- `larger::buffered` is safe: each part lies within its buffer. Assumes nothing.
+-- `larger::round::buffered` is safe: each part lies within its buffer. Assumes nothing.
 use borrow.Author.Needs.{needs}
 use mathlib.Core.Path.{sym}
 use lib.Seq.{length-take-le}
-use Rattle.larger.proofs.buffered.Statement.{statement}
-use Rattle.larger.proofs.buffered.Tie as tie
+use Rattle.larger.proofs.round.buffered.Statement.{statement}
+use Rattle.larger.proofs.round.buffered.Tie as tie
 
 word-length-requires : tie.Need-word-length-requires
 word-length-requires c κs = search needs
