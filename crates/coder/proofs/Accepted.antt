@@ -1,5 +1,6 @@
--- None of the theorems on refusals is empty: with an open and fit record, bits of the right length, room enough and, for correction, words not
--- full, each call on words is accepted and does its work; and two places of the code have their third. Assumes nothing.
+-- None of the theorems on refusals is empty: with a usable record, bits of the right length, room enough and, for correction, words not full,
+-- each call on words is accepted and does its work, and two places have their third; correction and third place where the place is not left
+-- out. Assumes nothing.
 use mathlib.Core.Path.{_≡_, refl, sym, ap, ap₂, _∙_}
 use mathlib.Core.Logic.{_≢_}
 use mathlib.Core.List.{List, [], _∷_, _++_}

@@ -23,7 +23,7 @@ use Rattle.coder.specs.declared.Record.{Record}
 use Rattle.coder.specs.declared.Opened.{Opened}
 use Rattle.coder.specs.declared.ElementAnswer.{ElementAnswer}
 use Rattle.coder.proofs.Firsts.{first-yes, first-no, first-end}
-use Rattle.coder.proofs.States.{Open, state-number, state-past, true-usable}
+use Rattle.coder.proofs.States.{Clear, state-number, state-past, true-usable}
 
 abbrev numberOf : Reason → ℕ
 numberOf x = x .number
@@ -92,7 +92,7 @@ outside-yes rec p (inr l) = ap (λ (b : Bool). eqb p 0 || b) (lt-ltb (placesIn r
     or-true true = refl
     or-true false = refl
 
-module _ (rec : Record) (f : Open rec) where
+module _ (rec : Record) (f : Clear rec) where
   pub element-outside : (p : ℕ) → (p ≡ 0) ⊎ (placesIn rec < p) → elementAt rec p ≡ refusedElement 5
   element-outside p h =
       element-by rec p (outside rec p) (state-past rec (outside rec p ∷ []) f ∙ first-yes (outside rec p) [] (outside-yes rec p h))
@@ -104,8 +104,8 @@ module _ (rec : Record) (f : Open rec) where
       ∙ first-no (outside rec p) [] (ap₂ _||_ (ne-eqb p 0 h) (le-ltb (placesIn rec) p l))
       ∙ first-end)
 
--- ---- what the layout crate answers for an open and fit record is the record's
-module _ (rec : Record) (f : Open rec) (s : Shape) (e : s ≡ shapeFor (rec .t) (rec .r)) where
+-- ---- what the layout crate answers for a usable record is the record's, without the s places that are left out
+module _ (rec : Record) (f : Clear rec) (s : Shape) (e : s ≡ shapeFor (rec .t) (rec .r)) where
   pub shape-known : Known (rec .t) (rec .r) s
   shape-known = known-for (rec .t) (rec .r) s e (true-usable rec (f .1) (f .2) .fit .admitted)
 
@@ -134,7 +134,7 @@ module _ (rec : Record) (f : Open rec) (s : Shape) (e : s ≡ shapeFor (rec .t) 
 if-usable : (rec : Record) (n : ℕ) (b : Bool) → isUsable rec ≡ b → ifUsable rec n ≡ elim b as (λ _. ℕ) [ true ↦ n | false ↦ 0 ]
 if-usable rec n b e = ap (λ (b : Bool). elim b as (λ _. ℕ) [ true ↦ n | false ↦ 0 ]) e
 
-pub usable-length : (rec : Record) (n : ℕ) → Open rec → ifUsable rec n ≡ n
+pub usable-length : (rec : Record) (n : ℕ) → Clear rec → ifUsable rec n ≡ n
 usable-length rec n f = if-usable rec n true (rw (f .0, f .1, f .2))
 
 pub unusable-length : (rec : Record) (n k : ℕ) → k ≡ firstReason (stateReasons rec) .number → k ≢ 0 → ifUsable rec n ≡ 0

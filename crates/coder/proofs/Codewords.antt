@@ -1,4 +1,4 @@
--- Of an open and fit record: the codeword test says yes exactly of the codewords, and reading shows the message of exactly those.
+-- Of a usable record: the codeword test says yes exactly of the codewords, and reading shows the message of exactly those.
 -- Assumes nothing.
 use mathlib.Core.Path.{_≡_, refl, sym, ap, subst, _∙_}
 use mathlib.Core.Logic.{_≢_, _↔_}

@@ -126,7 +126,7 @@ within rec (correcting w out ∷ xs) h = within (next rec w out) xs (go (correct
     go (suc n) e = rw (left rec w out e) h
 within rec (other x ∷ xs) h = within rec xs h
 
--- ---- the record stays open and fit: an accepted correction counts its place once
+-- ---- the record stays usable: an accepted correction counts its place once
 one-kind : (ms : List Modulus) (s p : ℕ) → oldPlace s p ≤ lengthOf ms → hit (eqb p 0) + hit (isBinary ms s p) + hit (isPaired ms s p) ≡ 1
 one-kind ms s zero h = refl
 one-kind ms s (suc i) h = go (width-kinds ms (suc i + s) (omega arith) h)
@@ -182,7 +182,7 @@ counts t r s e xs =
       pairs = from-zero t k s (λ (x : Record). x .«corrected_pairs») (isPaired (moduliFor t k) s)
           (λ rec p a b d. ap₂ (λ (t r : ℕ). rec .«corrected_pairs» + hit (isPaired (moduliFor t r) (rec .s) p)) a b ∙ ap (λ (s : ℕ). rec .«corrected_pairs» + hit (isPaired (moduliFor t k) s p)) d) refl xs;
       most = within (fresh t k s) xs (omega arith);
-      fit = stays-fit (fresh t k s) xs (subst Usable (opened-fresh t r s e) (opened-usable t r s e));
+      usable = stays-fit (fresh t k s) xs (subst Usable (opened-fresh t r s e) (opened-usable t r s e));
     })
 
 -- ---- what the places say of the words

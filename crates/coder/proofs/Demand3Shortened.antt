@@ -217,6 +217,13 @@ module _ (t r s : ℕ) (ok : Admitted t r) (al : Allowed t r s) where
         go (yes x) = left-does al o w x h
         go (no x) = absurd (n (kept-near x))
 
+    met : (o : Own t r s) → correctAnswer (o .given) w (o .output) .refusal ≢ 11 → HasNear t r s w
+    met o n = go left?
+      where
+        go : Dec Left → HasNear t r s w
+        go (yes x) = absurd (n (ap (λ (y : Corrected). y .refusal) (left-does al o w x h)))
+        go (no x) = kept-near x
+
     not-told : (o : Own t r s) → HasNear t r s w → correctAnswer (o .given) w (o .output) .refusal ≢ 11
     not-told o c e = go (ℕ-discrete (o .given .words) fullCount)
       where
@@ -254,6 +261,7 @@ module _ (t r s : ℕ) (ok : Admitted t r) (al : Allowed t r s) where
         some = of-near w h;
         none = λ o. ((λ e c. not-told w h o c e), λ n. ap (λ (x : Corrected). x .refusal) (left-told w h o n));
         untouched = λ o n. (left-told w h o n, kept-bytes w h o n);
+        met = met w h;
         choices = λ m m′ k k′ i j l l′ o o′.
             let a = encode-does al o m k (is-word (theorems .encodes m k .codeword)) in
             let b = encode-does al o′ m′ k′ (is-word (theorems .encodes m′ k′ .codeword)) in

@@ -1,4 +1,4 @@
--- What encoding, combining and correction do with a record and an output of their own, in terms of t, r and s. Assumes nothing.
+-- What encoding, combining, the inverse and correction do with a record and an output of their own, in terms of t, r and s. Assumes nothing.
 use mathlib.Core.Path.{_≡_, sym, ap, ap₂, subst, _∙_}
 use mathlib.Core.List.{List, _++_}
 use Prim.Native.Nat.{ℕ, _-_, _≤_}
@@ -8,14 +8,14 @@ use Rattle.group.specs.Group.{Modulus}
 use Rattle.layout.specs.Parameters.{placesOf, messageOf, moduliFor}
 use Rattle.words.specs.Words.{Word}
 use Rattle.shortened.specs.Allowed.{Allowed}
-use Rattle.shortened.specs.Code.{LeftOut, encode, combine, correctedOldPlace, corrected, correctedPlace}
-use Rattle.coder.specs.State.{Usable, moduliIn, placesIn, messageIn, encodedIn, correctedIn, correctedPlaceIn, correctedOldPlaceIn, fullCount}
-use Rattle.coder.specs.Calls.{encodeOutput, correctAnswer, correctOutput}
+use Rattle.shortened.specs.Code.{LeftOut, encode, combine, inverse, correctedOldPlace, corrected, correctedPlace}
+use Rattle.coder.specs.State.{Usable, moduliIn, placesIn, messageIn, encodedIn, inverseIn, correctedIn, correctedPlaceIn, correctedOldPlaceIn, fullCount}
+use Rattle.coder.specs.Calls.{encodeOutput, correctAnswer, correctOutput, invertOutput}
 use Rattle.coder.specs.Demand3.{Own, NotFull, AcceptsMessage, encodedBy, AcceptsTwo, combinedBy, AcceptsWord, correctedBy, placeBy}
 use Rattle.coder.specs.declared.Answer.{Answer}
 use Rattle.coder.specs.declared.Corrected.{Corrected}
 use Rattle.coder.proofs.States.{usable-of}
-use Rattle.coder.proofs.Accepted.{encode-accepts, correct-accepts, combine-accepts, left-refused, full-refused}
+use Rattle.coder.proofs.Accepted.{encode-accepts, correct-accepts, combine-accepts, invert-accepts, left-refused, full-refused}
 use Rattle.coder.proofs.Triples.{combined-front}
 
 module _ {t r s : ℕ} (al : Allowed t r s) (o : Own t r s) where
@@ -62,6 +62,14 @@ module _ {t r s : ℕ} (al : Allowed t r s) (o : Own t r s) where
     ap (λ (x : Answer). x .refusal) (combine-accepts (o .given) x y (o .output) usable (word-in h) (word-in i) room-in .0),
     combined-front t r s (o .given) al (o .code) x y (o .output) h i (o .enough),
   )
+
+  pub invert-does : (w : List ℕ) → Word (placesOf t - s) w → Word (placesOf t - s) (inverse ms s w)
+      → take (placesOf t - s) (invertOutput (o .given) w (o .output)) ≡ inverse ms s w
+  unfolding inverseIn
+  invert-does w h k =
+      front-by (inverse ms s w) (drop (placesIn (o .given)) (o .output)) (invertOutput (o .given) w (o .output)) k
+      (invert-accepts (o .given) w (o .output) usable (word-in h) room-in .1
+      ∙ of-code (λ (n : List Modulus) (j : ℕ). inverse n j w ++ drop (placesIn (o .given)) (o .output)))
 
   old-in : (w : List ℕ) → correctedOldPlaceIn (o .given) w ≡ correctedOldPlace ms s w
   unfolding correctedOldPlaceIn

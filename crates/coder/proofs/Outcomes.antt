@@ -27,7 +27,7 @@ use Rattle.coder.specs.declared.fit.Size.{Size}
 use Rattle.coder.specs.declared.Answer.{Answer}
 use Rattle.coder.specs.declared.TestAnswer.{TestAnswer}
 use Rattle.coder.proofs.Firsts.{first-yes, first-no, first-end, first-before, first-past, accepted-none, no-place}
-use Rattle.coder.proofs.States.{Open, state-number, state-open, usable-true, true-usable, or-false}
+use Rattle.coder.proofs.States.{Clear, state-number, state-clear, usable-true, true-usable, or-false}
 use Rattle.coder.proofs.Answers.{usable-length}
 
 pub if-refused : {A : Type 0} (n : ℕ) (x y : A) → n ≢ 0 → ifAccepted n x y ≡ y
@@ -61,7 +61,7 @@ module _ (rec : Record) (s : Size) (e : (s .places ≡ wordLength rec) × (s .me
       go : (n : ℕ) → firstReason (stateReasons rec) .number ≡ n
           → firstReason (stateReasons rec ++ rs (s .places) (s .message)) ≡ firstReason (stateReasons rec ++ rs (placesIn rec) (messageIn rec))
       go zero z =
-          let f = state-open rec z in
+          let f = state-clear rec z in
           ap₂ (λ (n m : ℕ). firstReason (stateReasons rec ++ rs n m)) (e .0 ∙ usable-length rec (placesIn rec) f) (e .1 ∙ usable-length rec (messageIn rec) f)
       go (suc n) z =
           let h : firstReason (stateReasons rec) .number ≢ 0 = λ y. let c : suc n ≡ 0 = sym z ∙ y in omega arith in
@@ -131,7 +131,7 @@ plain-third rec i j e =
     )
 
 -- whether a place is outside, by the lengths of a fit record
-pub outside-by : (rec : Record) (s : Size) (f : Open rec) → s .places ≡ wordLength rec → (p : ℕ)
+pub outside-by : (rec : Record) (s : Size) (f : Clear rec) → s .places ≡ wordLength rec → (p : ℕ)
     → (eqb p 0 || ltb (s .places) p) ≡ outside rec p .applies
 unfolding wordLength
 outside-by rec s f e p = ap (λ (n : ℕ). eqb p 0 || ltb n p) (e ∙ usable-length rec (placesIn rec) f)
@@ -253,9 +253,9 @@ module _ (rec : Record) (i j x : ℕ) (e : x ≡ firstReason (placesReasons rec 
     past : firstReason (thirdReasons rec i j) ≡ firstReason (left ∷ [])
     past = first-past (placesReasons rec i j) (left ∷ []) (accepted-none (placesReasons rec i j) refl z)
 
-    pub third-left : isLeftOut (rec .s) q ≡ true → record { refusal = 11; place = 0 } ≡ thirdAnswer rec i j
+    pub third-stopped : isLeftOut (rec .s) q ≡ true → record { refusal = 11; place = 0 } ≡ thirdAnswer rec i j
     unfolding thirdAnswer
-    third-left y = rw (past, first-yes left [] (ap (isLeftOut (rec .s)) (sym whole) ∙ y))
+    third-stopped y = rw (past, first-yes left [] (ap (isLeftOut (rec .s)) (sym whole) ∙ y))
 
     pub third-accepted : isLeftOut (rec .s) q ≡ false → (p : ℕ) → p ≡ q - rec .s → record { refusal = 0; place = p } ≡ thirdAnswer rec i j
     unfolding thirdAnswer thirdIn shortened.third thirdOldPlaceIn

@@ -14,7 +14,7 @@ use Rattle.layout.proofs.Parameters.{admits-admitted, admitted-admits}
 use Rattle.words.specs.Words.{Bits}
 use Rattle.shortened.specs.Allowed.{Allowed, allows}
 use Rattle.shortened.specs.Code.{LeftOut, isLeftOut}
-use Rattle.shortened.proofs.Between.{allows-allowed, allowed-allows}
+use Rattle.shortened.proofs.Between.{allows-allowed, allowed-allows, zero-allowed}
 use Rattle.coder.specs.State.{Fit, Usable, fresh, isUnfit, placesIn, elementIn, fullCount}
 use Rattle.coder.specs.Reasons.{notAdmitted, notAllowed, leftOut, wrongLength, shortOutput, badPlace, badByte, outside, equalPlaces, closed, unfit, full}
 use Rattle.coder.specs.Calls.{inForce, openReasons, opened, layoutReasons, elementAt, wordReasons, syndromeAnswer, codewordAnswer}
@@ -170,7 +170,7 @@ byte-applies w = (
 pub equal-applies : (i j : ℕ) → (equalPlaces i j .applies ≡ true) ↔ (i ≡ j)
 equal-applies i j = ((λ e. eqb-true i j e), (λ e. eq-eqb i j e))
 
--- ---- none of this is empty: every admitted pair opens, with r = t for r = 0, and the record is open and fit
+-- ---- none of this is empty: every admitted pair opens with every allowed s, with r = t for r = 0, and the record is usable
 in-force : (t r : ℕ) → 2 ≤ r → inForce t r ≡ r
 in-force t zero h = absurd (omega arith)
 in-force t (suc r) h = refl
@@ -180,6 +180,11 @@ opens t r s h k =
     let e = in-force t r (h .binary) in
     opened-yes t r s (ap (admits t) e ∙ admitted-admits t r h) (ap (λ (j : ℕ). allows t j s) e ∙ allowed-allows t r s k)
     ∙ ap {B = Opened} (λ (k : ℕ). record { refusal = 0; «record» = fresh t k s }) e
+
+-- with s = 0 every admitted pair does
+pub opens-zero : (t r : ℕ) → Admitted t (inForce t r) → opened t r 0 ≡ record { refusal = 0; «record» = fresh t (inForce t r) 0 }
+opens-zero t r h =
+    opened-yes t r 0 (admitted-admits t (inForce t r) h) (allowed-allows t (inForce t r) 0 (zero-allowed t (inForce t r) h))
 
 pub opens-default : (t s : ℕ) → Admitted t t → Allowed t t s → opened t 0 s ≡ record { refusal = 0; «record» = fresh t t s }
 opens-default t s h k = opened-yes t 0 s (admitted-admits t t h) (allowed-allows t t s k)

@@ -1,4 +1,4 @@
--- What it is for a record to be open and fit, and how the reasons 21 and 22 come before any other. Assumes nothing.
+-- What it is for a record to be open and fit, and usable, and how the reasons 21, 22 and 10 come before any other. Assumes nothing.
 use mathlib.Core.Path.{_≡_, refl, sym, ap, _∙_}
 use mathlib.Core.Logic.{_≢_}
 use mathlib.Core.List.{List, _++_}
@@ -25,18 +25,18 @@ use Rattle.coder.specs.declared.Record.{Record}
 use Rattle.coder.proofs.Firsts.{first-before, first-past, accepted-none}
 
 -- none of 21, 22 and 10 applies
-abbrev pub Open : Record → Type 0
-Open rec = (isClosed rec ≡ false) × (isUnfit rec ≡ false) × (isNotAllowed rec ≡ false)
+abbrev pub Clear : Record → Type 0
+Clear rec = (isClosed rec ≡ false) × (isUnfit rec ≡ false) × (isNotAllowed rec ≡ false)
 
 -- ---- the first of 21, 22 and 10, before further reasons
 pub state-number : (rec : Record) (rs : List Reason) → firstReason (stateReasons rec) .number ≢ 0
     → firstReason (stateReasons rec ++ rs) ≡ firstReason (stateReasons rec)
 state-number rec rs h = first-before (stateReasons rec) rs h
 
-pub state-open : (rec : Record) → firstReason (stateReasons rec) .number ≡ 0 → Open rec
-state-open rec h = let n = accepted-none (stateReasons rec) refl h in (n .0, n .1 .0, n .1 .1 .0)
+pub state-clear : (rec : Record) → firstReason (stateReasons rec) .number ≡ 0 → Clear rec
+state-clear rec h = let n = accepted-none (stateReasons rec) refl h in (n .0, n .1 .0, n .1 .1 .0)
 
-pub state-past : (rec : Record) (rs : List Reason) → Open rec → firstReason (stateReasons rec ++ rs) ≡ firstReason rs
+pub state-past : (rec : Record) (rs : List Reason) → Clear rec → firstReason (stateReasons rec ++ rs) ≡ firstReason rs
 state-past rec rs h = first-past (stateReasons rec) rs (h .0, (h .1, (h .2, tt)))
 
 -- ---- what 21 and 22 say
@@ -65,7 +65,7 @@ true-fit rec h =
     record { admitted = admits-admitted (rec .t) (rec .r) (not-back _ (a .0)); sums = eqb-true (rec .words) s (not-back _ (b .1)) }
 
 -- ---- and 10
-pub usable-true : (rec : Record) → Usable rec → Open rec
+pub usable-true : (rec : Record) → Usable rec → Clear rec
 usable-true rec u =
     let f = fit-true rec (u .fit) in
     (f .0, f .1, ap not (allowed-allows (rec .t) (rec .r) (rec .s) (u .allowed)))

@@ -1,4 +1,4 @@
--- Demand 2 of combining, the inverse and the third place: what the calls write and tell, with an open and fit record. Assumes nothing.
+-- Demand 2 of combining, the inverse and the third place: what the calls write and tell, with a usable record. Assumes nothing.
 use mathlib.Core.Path.{_≡_, refl, sym, ap, ap₂, _∙_, subst}
 use mathlib.Core.Logic.{_≢_}
 use mathlib.Core.Bool.{Bool, true, false}

@@ -4,9 +4,10 @@ use mathlib.Core.Path.{_≡_}
 use mathlib.Core.Logic.{_≢_, _↔_, _⊎_}
 use mathlib.Core.List.{List, [], _∷_, _++_}
 use mathlib.Core.Bool.{true, false}
-use Prim.Native.Nat.{ℕ, zero, suc, _+_, _<_, _≤_}
+use Prim.Native.Nat.{ℕ, zero, suc, _+_, _-_, _<_, _≤_}
 use lib.ListN.{length, getD, take, drop}
-use Rattle.words.specs.Words.{Bits, Word, zeroWord}
+use Rattle.layout.specs.Parameters.{placesOf, messageOf}
+use Rattle.words.specs.Words.{Bits, Word, zeroWord, flip}
 use Rattle.shortened.specs.Allowed.{Allowed}
 use Rattle.coder.specs.State.{Fit, RecordOf, placesIn, messageIn, CodewordIn, ThreeIn}
 use Rattle.coder.specs.Reasons.{Reason, inOrder}
@@ -107,13 +108,25 @@ pub record ThirdsShortened (rec : Record) (i j : ℕ) : Type 0 where
   pub none : (thirdAnswer rec i j .refusal ≡ 11) ↔ ((k : ℕ) → ThreeIn rec i j k → ⊥)
 
 -- "the first s message places are fixed at 0 and left out, and places are renumbered from 1. Lengths become n − s and n − t − s": what the
--- calls that only read say, beside what they say with a record `whole` of the same t and r whose s is 0
+-- calls on a usable record tell and write, beside what they do with a record `whole` of the same t and r whose s is 0
 pub record Shortens (rec whole : Record) : Type 0 where
-  pub places : rec .s + wordLength rec ≡ wordLength whole
-  pub message : rec .s + messageLength rec ≡ messageLength whole
-  pub elements : (p : ℕ) → 0 < p → p ≤ wordLength rec → elementAt rec p ≡ elementAt whole (p + rec .s)
-  pub syndromes : (w : List ℕ) → Word (wordLength rec) w → syndromeAnswer rec w ≡ syndromeAnswer whole (zeroWord (rec .s) ++ w)
-  pub tests : (w : List ℕ) → Word (wordLength rec) w → codewordAnswer rec w ≡ codewordAnswer whole (zeroWord (rec .s) ++ w)
+  pub places : wordLength rec ≡ placesOf (rec .t) - rec .s
+  pub message : messageLength rec ≡ messageOf (rec .t) - rec .s
+  pub elements : (p : ℕ) → 0 < p → p ≤ placesOf (rec .t) - rec .s → elementAt rec p ≡ elementAt whole (p + rec .s)
+  pub syndromes : (w : List ℕ) → Word (placesOf (rec .t) - rec .s) w → syndromeAnswer rec w ≡ syndromeAnswer whole (zeroWord (rec .s) ++ w)
+  pub tests : (w : List ℕ) → Word (placesOf (rec .t) - rec .s) w → codewordAnswer rec w ≡ codewordAnswer whole (zeroWord (rec .s) ++ w)
+  -- the word with a single 1 at place p has the syndrome that the layout tells of p
+  pub ones : (p : ℕ) → 0 < p → p ≤ placesOf (rec .t) - rec .s
+      → syndromeAnswer rec (flip p (zeroWord (placesOf (rec .t) - rec .s))) .element ≡ elementAt rec p .element
+  -- what is written into the first bytes of an output; the outputs are long enough, whatever they hold
+  pub encodes : (m out v : List ℕ) → Word (messageOf (rec .t) - rec .s) m → placesOf (rec .t) - rec .s ≤ length out → placesOf (rec .t) ≤ length v
+      → zeroWord (rec .s) ++ take (placesOf (rec .t) - rec .s) (encodeOutput rec m out) ≡ take (placesOf (rec .t)) (encodeOutput whole (zeroWord (rec .s) ++ m) v)
+  pub combines : (x y out v : List ℕ) → Word (placesOf (rec .t) - rec .s) x → Word (placesOf (rec .t) - rec .s) y
+      → placesOf (rec .t) - rec .s ≤ length out → placesOf (rec .t) ≤ length v
+      → zeroWord (rec .s) ++ take (placesOf (rec .t) - rec .s) (combineOutput rec x y out)
+      ≡ take (placesOf (rec .t)) (combineOutput whole (zeroWord (rec .s) ++ x) (zeroWord (rec .s) ++ y) v)
+  pub inverts : (w out v : List ℕ) → Word (placesOf (rec .t) - rec .s) w → placesOf (rec .t) - rec .s ≤ length out → placesOf (rec .t) ≤ length v
+      → zeroWord (rec .s) ++ take (placesOf (rec .t) - rec .s) (invertOutput rec w out) ≡ take (placesOf (rec .t)) (invertOutput whole (zeroWord (rec .s) ++ w) v)
 
 -- "It refuses with 10 .. right after 22 elsewhere .. an s that is not allowed": the record is open and fit, and its s is not allowed
 abbrev pub BadS : Record → Type 0

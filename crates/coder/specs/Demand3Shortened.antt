@@ -56,6 +56,7 @@ pub record AtShortenedWord (t r s : ℕ) (w : List ℕ) : Type 0 where
   pub none : (o : Own t r s) → (correctAnswer (o .given) w (o .output) .refusal ≡ 11) ↔ (HasNear t r s w → ⊥)
   pub untouched : (o : Own t r s) → (HasNear t r s w → ⊥)
       → (correctAnswer (o .given) w (o .output) ≡ record { refusal = 11; place = 0; «record» = o .given }) × (correctOutput (o .given) w (o .output) ≡ o .output)
+  pub met : (o : Own t r s) → correctAnswer (o .given) w (o .output) .refusal ≢ 11 → HasNear t r s w
   -- "So two different choices of message and flipped place (none included) never give one received word"
   pub choices : (m m′ : List ℕ) → Word (messageOf t - s) m → Word (messageOf t - s) m′ → (i j : ℕ) → i ≤ placesOf t - s → j ≤ placesOf t - s → (o o′ : Own t r s)
       → AcceptsMessage o m × AcceptsMessage o′ m′ × (flip i (encodedBy o m) ≡ flip j (encodedBy o′ m′) → (m ≡ m′) × (i ≡ j))

@@ -69,8 +69,8 @@ pub record Counts (t r s : ℕ) (rec : Record) (xs : List Outcome) : Type 0 wher
   pub pairs : rec .«corrected_pairs» ≡ howMany (isPaired (moduliFor t r) s) xs
   -- "Counts stop at 4,294,967,295": then corrections are refused, and not counted
   pub most : rec .words ≤ fullCount
-  -- "Each accepted correction adds one to words and to one of the other three": so the record stays open and fit
-  pub fit : Usable rec
+  -- "Each accepted correction adds one to words and to one of the other three": so the record stays usable
+  pub usable : Usable rec
 
 -- what an accepted correction's place says of the word: place 0 that it was a codeword, a binary place or one of a pair that it is a codeword
 -- with this place flipped. There is no other kind, and the binary places are those that were of part 1, the first k − a, and of part 3, a after the

@@ -57,16 +57,16 @@ pub(crate) fn output(record: Record, n: u32, word: &[u8], need: u32, room: usize
 pub(crate) fn word(record: Record, word: &[u8]) -> Answer
     ensures { λ x. ⌜ x ≡ answerOf (firstReason (wordReasons «record» (now (word .entry)))) ⌝ }
 {
-    let s = fit::lengths(record);
-    output(record, s.places, word, 0, 0)
+    let size = fit::lengths(record);
+    output(record, size.places, word, 0, 0)
 }
 
 // The same for a word and an output that is to hold one.
 pub(crate) fn written(record: Record, word: &[u8], room: usize) -> Answer
     ensures { λ x. ⌜ x ≡ answerOf (firstReason (writeReasons «record» (placesIn «record») (now (word .entry)) room)) ⌝ }
 {
-    let s = fit::lengths(record);
-    let n = s.places;
+    let size = fit::lengths(record);
+    let n = size.places;
     output(record, n, word, n, room)
 }
 
@@ -84,7 +84,7 @@ pub(crate) fn opening(t: u32, r: u32, s: u32) -> u32
 }
 
 // 11 and 23 of a correction at place q, by its number before renumbering.
-pub(crate) fn changed(record: Record, q: u32) -> u32
+pub(crate) fn correction(record: Record, q: u32) -> u32
     ensures { λ x. ⌜ x ≡ firstReason (leftOut («record» .s) q ∷ full «record» ∷ []) .number ⌝ }
 {
     let s = record.s;
@@ -109,8 +109,8 @@ pub(crate) fn two(record: Record, first: &[u8], second: &[u8], room: usize) -> A
             place: 0,
         };
     }
-    let s = fit::lengths(record);
-    let n = s.places as usize;
+    let size = fit::lengths(record);
+    let n = size.places as usize;
     if first.len() != n {
         return Answer {
             refusal: 2,
@@ -165,8 +165,8 @@ pub(crate) fn places(record: Record, i: u32, j: u32) -> u32
     if x != 0 {
         return x;
     }
-    let s = fit::lengths(record);
-    let n = s.places;
+    let size = fit::lengths(record);
+    let n = size.places;
     if is_outside(n, i) {
         return 5;
     }

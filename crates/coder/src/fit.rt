@@ -1,4 +1,4 @@
-// Whether a record is open and fit, and the lengths that it fixes.
+// Whether a record is usable, that is, open, fit and with an allowed s, and the lengths that it fixes.
 ghost use mathlib.Core.Path.{_≡_};
 ghost use mathlib.Core.Bool.{true};
 ghost use Rattle.layout.specs.Parameters.{admits};

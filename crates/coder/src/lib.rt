@@ -201,8 +201,8 @@ pub fn encode(record: Record, message: &[u8], out: &mut [u8]) -> Answer
     ensures answer { λ x. ⌜ x ≡ encodeAnswer «record» (now (message .entry)) (now (out .entry)) ⌝ }
     ensures bytes { λ x. ⌜ now (out .exit) ≡ encodeOutput «record» (now (message .entry)) (now (out .entry)) ⌝ }
 {
-    let s = fit::lengths(record);
-    let a = check::output(record, s.message, message, s.places, out.len());
+    let size = fit::lengths(record);
+    let a = check::output(record, size.message, message, size.places, out.len());
     if a.refusal == 0 {
         let t = record.t;
         let r = record.r;
@@ -213,7 +213,7 @@ pub fn encode(record: Record, message: &[u8], out: &mut [u8]) -> Answer
 }
 
 // The codeword that differs from a word in at most one place, at the front of `out`, and that place.
-// Refused with 21, 22, 10, 2, 3, 4, 11 and 23.
+// Refused with 21, 22, 10, 2, 3, 4, 11, where there is none, and 23.
 pub fn correct(record: Record, word: &[u8], out: &mut [u8]) -> Corrected
     ensures answer { λ x. ⌜ x ≡ correctAnswer «record» (now (word .entry)) (now (out .entry)) ⌝ }
     ensures bytes { λ x. ⌜ now (out .exit) ≡ correctOutput «record» (now (word .entry)) (now (out .entry)) ⌝ }
@@ -228,7 +228,7 @@ pub fn correct(record: Record, word: &[u8], out: &mut [u8]) -> Corrected
         };
     }
     let q = fault(record, word);
-    let x = check::changed(record, q);
+    let x = check::correction(record, q);
     if x != 0 {
         return Corrected {
             refusal: x,

@@ -49,9 +49,9 @@ abbrev pub refusalOf : ℤ → ℕ
 refusalOf (pos p) = 0
 refusalOf (negsuc n) = suc n
 
--- "r given as 0 means r = t": the calls with r are those with s
-pub record SameCalls (t r s : ℕ) : Type 0 where
-  pub encodes : (m out : List ℕ) → (encodeAnswer t r m out ≡ encodeAnswer t s m out) × (encodeOutput t r m out ≡ encodeOutput t s m out)
-  pub corrects : (w out : List ℕ) → (correctAnswer t r w out ≡ correctAnswer t s w out) × (correctOutput t r w out ≡ correctOutput t s w out)
-  pub combines : (x y out : List ℕ) → (combineAnswer t r x y out ≡ combineAnswer t s x y out) × (combineOutput t r x y out ≡ combineOutput t s x y out)
-  pub thirds : (i j : ℕ) → thirdAnswer t r i j ≡ thirdAnswer t s i j
+-- "r given as 0 means r = t": the calls with r are those with r′
+pub record SameCalls (t r r′ : ℕ) : Type 0 where
+  pub encodes : (m out : List ℕ) → (encodeAnswer t r m out ≡ encodeAnswer t r′ m out) × (encodeOutput t r m out ≡ encodeOutput t r′ m out)
+  pub corrects : (w out : List ℕ) → (correctAnswer t r w out ≡ correctAnswer t r′ w out) × (correctOutput t r w out ≡ correctOutput t r′ w out)
+  pub combines : (x y out : List ℕ) → (combineAnswer t r x y out ≡ combineAnswer t r′ x y out) × (combineOutput t r x y out ≡ combineOutput t r′ x y out)
+  pub thirds : (i j : ℕ) → thirdAnswer t r i j ≡ thirdAnswer t r′ i j

@@ -13,14 +13,14 @@ returns c = correct-refused _ _ _ _ (c .before .written .ensures) (c .if1 .taken
 fault-requires : tie.Need-fault-requires
 fault-requires c κs = search needs
 
-changed-requires : tie.Need-changed-requires
-changed-requires c κs = search needs
+correction-requires : tie.Need-correction-requires
+correction-requires c κs = search needs
 
 returns-2 : tie.Need-returns-2
 returns-2 c =
     let u = c .before in
     let e = u .before .before in
-    correct-stopped _ _ _ _ (e .before .written .ensures) (e .if1 .left) _ (u .before .fault .ensures) _ (u .changed .ensures) (c .if2 .taken)
+    correct-stopped _ _ _ _ (e .before .written .ensures) (e .if1 .left) _ (u .before .fault .ensures) _ (u .correction .ensures) (c .if2 .taken)
 
 new-place-requires : tie.Need-new-place-requires
 new-place-requires c κs = search needs
@@ -34,7 +34,7 @@ counted-requires c κs =
     let u = f .before in
     let e = u .before .before in
     let g = e .before .before .before .before .args in
-    correct-ready (g .«record») (g .word .now) (g .out .now) _ (e .before .written .ensures) (e .if1 .left) _ (u .before .fault .ensures) _ (u .changed .ensures) (f .if2 .left)
+    correct-ready (g .«record») (g .word .now) (g .out .now) _ (e .before .written .ensures) (e .if1 .left) _ (u .before .fault .ensures) _ (u .correction .ensures) (f .if2 .left)
 
 same-length : tie.Need-same-length
 same-length c = search needs
@@ -46,7 +46,7 @@ returns-3 c =
     let f = m .before in
     let u = f .before in
     let e = u .before .before in
-    correct-changed _ _ _ _ (e .before .written .ensures) (e .if1 .left) _ (u .before .fault .ensures) _ (u .changed .ensures) (f .if2 .left)
+    correct-changed _ _ _ _ (e .before .written .ensures) (e .if1 .left) _ (u .before .fault .ensures) _ (u .correction .ensures) (f .if2 .left)
     _ (m .new-place .ensures) _ (l .flip .ensures) _ (c .counted .ensures)
 
 pub correct-spec : {M : Type 1} → statement M
@@ -56,7 +56,7 @@ correct-spec =
     written-requires
     returns
     fault-requires
-    changed-requires
+    correction-requires
     returns-2
     new-place-requires
     flip-requires

@@ -3,7 +3,7 @@ use mathlib.Core.Logic.{inl, inr}
 use mathlib.Core.Path.{sym, _∙_}
 use borrow.Author.Needs.{needs}
 use Rattle.coder.proofs.Answers.{element-state, element-outside, element-inside, shape-places, shape-still, shape-element}
-use Rattle.coder.proofs.States.{Open, state-open}
+use Rattle.coder.proofs.States.{Clear, state-clear}
 use Rattle.coder.proofs.element_at.Statement.{statement}
 use Rattle.coder.proofs.element_at.Tie as tie
 
@@ -25,8 +25,8 @@ refused-element-requires-2 : tie.Need-refused-element-requires-2
 refused-element-requires-2 c κs = search needs
 
 -- past the first test the record is usable
-past : (c : tie.Else1) → Open (c .before .before .args .«record»)
-past c = state-open (c .before .before .args .«record») (sym (c .before .state .ensures) ∙ c .if1 .left)
+past : (c : tie.Else1) → Clear (c .before .before .args .«record»)
+past c = state-clear (c .before .before .args .«record») (sym (c .before .state .ensures) ∙ c .if1 .left)
 
 returns-2 : tie.Need-returns-2
 returns-2 c =

@@ -1,7 +1,7 @@
 -- `coder::third_place` meets its contract. Assumes nothing.
 use mathlib.Core.Path.{sym, _∙_}
 use borrow.Author.Needs.{needs}
-use Rattle.coder.proofs.Outcomes.{third-refused, third-left, third-accepted}
+use Rattle.coder.proofs.Outcomes.{third-refused, third-stopped, third-accepted}
 use Rattle.coder.proofs.third_place.Statement.{statement}
 use Rattle.coder.proofs.third_place.Tie as tie
 
@@ -21,7 +21,7 @@ returns-2 : tie.Need-returns-2
 returns-2 c =
     let u = c .before in
     let e = u .before .before in
-    third-left _ _ _ _ (e .before .places .ensures) (e .if1 .left) _ (u .before .third .ensures) (sym (u .is-left-out .ensures) ∙ c .if2 .taken)
+    third-stopped _ _ _ _ (e .before .places .ensures) (e .if1 .left) _ (u .before .third .ensures) (sym (u .is-left-out .ensures) ∙ c .if2 .taken)
 
 new-place-requires : tie.Need-new-place-requires
 new-place-requires c κs = search needs

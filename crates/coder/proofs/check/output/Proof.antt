@@ -7,7 +7,7 @@ use mathlib.Core.List.{List, [], _∷_, _++_}
 use Rattle.coder.specs.Reasons.{Reason, firstReason, wrongLength, shortOutput, badByte}
 use Rattle.coder.specs.Calls.{stateReasons, answerOf}
 use Rattle.coder.proofs.Firsts.{first-yes, first-no, first-end}
-use Rattle.coder.proofs.States.{state-open, state-past}
+use Rattle.coder.proofs.States.{state-clear, state-past}
 use Rattle.coder.proofs.Outcomes.{state-answer, byte-bad, byte-good}
 use Rattle.coder.proofs.check.output.Statement.{statement}
 use Rattle.coder.proofs.check.output.Tie as tie
@@ -21,12 +21,12 @@ returns c =
     let g = q .before .before .args in
     sym (state-answer (g .«record») _ (q .state .result) (q .state .ensures) (c .if1 .taken))
 
--- past the first test the record is open and fit
+-- past the first test the record is usable
 past : (c : tie.Else1) (rs : List Reason)
     → firstReason (stateReasons (c .before .before .before .args .«record») ++ rs) ≡ firstReason rs
 past c rs =
     let g = c .before .before .before .args .«record» in
-    state-past g rs (state-open g (sym (c .before .state .ensures) ∙ c .if1 .left))
+    state-past g rs (state-clear g (sym (c .before .state .ensures) ∙ c .if1 .left))
 
 returns-2 : tie.Need-returns-2
 returns-2 c =

@@ -6,7 +6,7 @@ use mathlib.Core.List.{[], _∷_}
 use Prim.Native.Nat.{ℕ}
 use Rattle.coder.specs.Reasons.{Reason, outside, equalPlaces}
 use Rattle.coder.proofs.Firsts.{first-yes, first-no, first-end}
-use Rattle.coder.proofs.States.{Open, state-number, state-open, state-past}
+use Rattle.coder.proofs.States.{Clear, state-number, state-clear, state-past}
 use Rattle.coder.proofs.Outcomes.{outside-by}
 use Rattle.coder.proofs.check.places.Statement.{statement}
 use Rattle.coder.proofs.check.places.Tie as tie
@@ -24,10 +24,10 @@ returns c =
     q .state .ensures
     ∙ sym (ap numberOf (state-number (g .«record») (outside (g .«record») (g .i) ∷ outside (g .«record») (g .j) ∷ equalPlaces (g .i) (g .j) ∷ []) (λ z. c .if1 .taken (q .state .ensures ∙ z))))
 
--- past the first test the record is open and fit
+-- past the first test the record is usable
 past : (c : tie.Else1)
-    → Open (c .before .before .args .«record»)
-past c = state-open (c .before .before .args .«record») (sym (c .before .state .ensures) ∙ c .if1 .left)
+    → Clear (c .before .before .args .«record»)
+past c = state-clear (c .before .before .args .«record») (sym (c .before .state .ensures) ∙ c .if1 .left)
 
 -- what the two tests found
 first-test : (c : tie.After-is-outside) → c .is-outside .result ≡ outside (c .before .before .before .before .args .«record») (c .before .before .before .before .args .i) .applies

@@ -11,7 +11,7 @@ use Rattle.coder.specs.Reasons.{Reason, firstReason, wrongLength, shortO
 use Rattle.coder.specs.Calls.{stateReasons, answerOf, wordLength}
 use Rattle.coder.specs.declared.Record.{Record}
 use Rattle.coder.proofs.Firsts.{first-yes, first-no}
-use Rattle.coder.proofs.States.{Open, state-open, state-past}
+use Rattle.coder.proofs.States.{Clear, state-clear, state-past}
 use Rattle.coder.proofs.Answers.{usable-length}
 use Rattle.coder.proofs.Outcomes.{state-answer}
 use Rattle.coder.proofs.check.two.Statement.{statement}
@@ -26,12 +26,12 @@ returns c =
     let g = q .before .before .before .args in
     sym (state-answer (g .«record») _ (q .state .result) (q .state .ensures) (c .if1 .taken))
 
--- past the first test the record is open and fit
+-- past the first test the record is usable
 abbrev given : tie.Else1 → Record
 given c = c .before .before .before .before .args .«record»
 
-open-fit : (c : tie.Else1) → Open (given c)
-open-fit c = state-open (given c) (sym (c .before .state .ensures) ∙ c .if1 .left)
+open-fit : (c : tie.Else1) → Clear (given c)
+open-fit c = state-clear (given c) (sym (c .before .state .ensures) ∙ c .if1 .left)
 
 lengths-requires : tie.Need-lengths-requires
 lengths-requires c κs = search needs

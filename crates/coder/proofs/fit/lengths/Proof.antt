@@ -4,7 +4,7 @@ use borrow.Author.Needs.{needs}
 use Rattle.coder.specs.Calls.{wordLength, messageLength}
 use Rattle.coder.specs.State.{placesIn, messageIn}
 use Rattle.coder.proofs.Answers.{shape-places, shape-message, shape-still, usable-length, unusable-length}
-use Rattle.coder.proofs.States.{Open, state-open}
+use Rattle.coder.proofs.States.{Clear, state-clear}
 use Rattle.coder.proofs.fit.lengths.Statement.{statement}
 use Rattle.coder.proofs.fit.lengths.Tie as tie
 
@@ -15,8 +15,8 @@ shape-of-requires : tie.Need-shape-of-requires
 shape-of-requires c κs = search needs
 
 -- past the test the record is usable
-open-fit : (c : tie.Then1) → Open (c .before .before .args .«record»)
-open-fit c = state-open (c .before .before .args .«record») (sym (c .before .state .ensures) ∙ c .if1 .taken)
+open-fit : (c : tie.Then1) → Clear (c .before .before .args .«record»)
+open-fit c = state-clear (c .before .before .args .«record») (sym (c .before .state .ensures) ∙ c .if1 .taken)
 
 sub-t8 : tie.Need-sub-t8
 sub-t8 c = shape-still _ (open-fit (c .before .before)) _ (c .before .shape-of .ensures) .0

@@ -1,4 +1,4 @@
--- `coder::check::changed` meets its contract. Assumes nothing.
+-- `coder::check::correction` meets its contract. Assumes nothing.
 use mathlib.Core.List.{[]}
 use mathlib.Core.Path.{sym, ap, _∙_}
 use Prim.Native.Nat.{ℕ}
@@ -6,8 +6,8 @@ use borrow.Author.Tests.{eq-eqb, ne-eqb}
 use borrow.Author.Needs.{needs}
 use Rattle.coder.specs.Reasons.{Reason, leftOut, full}
 use Rattle.coder.proofs.Firsts.{first-yes, first-no, first-end}
-use Rattle.coder.proofs.check.changed.Statement.{statement}
-use Rattle.coder.proofs.check.changed.Tie as tie
+use Rattle.coder.proofs.check.correction.Statement.{statement}
+use Rattle.coder.proofs.check.correction.Tie as tie
 
 abbrev numberOf : Reason → ℕ
 numberOf x = x .number
@@ -34,5 +34,5 @@ returns-3 c =
     let u = c .before .before in
     sym (ap numberOf (first-no (leftOut (s (u .before)) (q (u .before))) _ (sym (u .is-left-out .ensures) ∙ c .before .if1 .left) ∙ first-no (full (u .before .args .«record»)) [] (ne-eqb _ _ (c .if2 .left)) ∙ first-end))
 
-pub changed-spec : {M : Type 1} → statement M
-changed-spec = tie.close (tie.spec is-left-out-requires returns returns-2 returns-3)
+pub correction-spec : {M : Type 1} → statement M
+correction-spec = tie.close (tie.spec is-left-out-requires returns returns-2 returns-3)
