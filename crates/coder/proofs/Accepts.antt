@@ -74,9 +74,9 @@ module _ (rec : Record) (i j : ℕ) where
   third-where : (thirdAnswer rec i j .refusal ≡ 0) ↔ (Usable rec × IsPlace rec i × IsPlace rec j × (i ≢ j) × ((k : ℕ) × ThreeIn rec i j k))
   third-where = (
     (λ e.
-      let a = facts e in
-      let p = thirdAnswer rec i j .place in
-      (a .0, a .1, a .2, a .3, (p, three (a .0) (a .1) (a .2) (a .3) .some p .0 (ap (λ (x : ℕ). record { refusal = x; place = p }) e)))),
+        let a = facts e in
+        let p = thirdAnswer rec i j .place in
+        (a .0, a .1, a .2, a .3, (p, three (a .0) (a .1) (a .2) (a .3) .some p .0 (ap (λ (x : ℕ). record { refusal = x; place = p }) e)))),
     λ a. ap (λ (x : Answer). x .refusal) (three (a .0) (a .1) (a .2) (a .3) .some (a .4 .0) .1 (a .4 .1)),
   )
 
@@ -86,8 +86,8 @@ accepts rec =
     record {
       layout = λ p. (
         (λ e.
-          let h = accepted-none (layoutReasons rec p) refl (sym (element-refusal rec p) ∙ e) in
-          (true-usable rec (h .1 .0) (h .1 .1 .0), inside-by rec p (h .1 .1 .1 .0))),
+            let h = accepted-none (layoutReasons rec p) refl (sym (element-refusal rec p) ∙ e) in
+            (true-usable rec (h .1 .0) (h .1 .1 .0), inside-by rec p (h .1 .1 .1 .0))),
         λ f. ap (λ (x : ElementAnswer). x .refusal) (tells rec p (f .0) (f .1 .0) (f .1 .1)),
       );
       syndrome = λ w. (
@@ -100,31 +100,31 @@ accepts rec =
       );
       encode = λ m out. (
         (λ e.
-          let h = accepted-none (encodeReasons rec m (length out)) refl e in (
-            true-usable rec (h .1 .0) (h .1 .1 .0),
-            word-by (messageIn rec) m (h .1 .1 .1 .0) (h .1 .1 .1 .1 .1 .0),
-            ltb-false (length out) (placesIn rec) (h .1 .1 .1 .1 .0),
-          )),
+            let h = accepted-none (encodeReasons rec m (length out)) refl e in (
+              true-usable rec (h .1 .0) (h .1 .1 .0),
+              word-by (messageIn rec) m (h .1 .1 .1 .0) (h .1 .1 .1 .1 .1 .0),
+              ltb-false (length out) (placesIn rec) (h .1 .1 .1 .1 .0),
+            )),
         λ f. ap (λ (x : Answer). x .refusal) (encode-accepts rec m out (f .0) (f .1) (f .2) .0),
       );
       correct = correct-where rec;
       combine = λ x y out. (
         (λ e.
-          let h = accepted-none (combineReasons rec x y (length out)) refl e in (
-            true-usable rec (h .1 .0) (h .1 .1 .0),
-            word-by (placesIn rec) x (h .1 .1 .1 .0) (h .1 .1 .1 .1 .1 .1 .0),
-            word-by (placesIn rec) y (h .1 .1 .1 .1 .0) (h .1 .1 .1 .1 .1 .1 .1 .0),
-            ltb-false (length out) (placesIn rec) (h .1 .1 .1 .1 .1 .0),
-          )),
+            let h = accepted-none (combineReasons rec x y (length out)) refl e in (
+              true-usable rec (h .1 .0) (h .1 .1 .0),
+              word-by (placesIn rec) x (h .1 .1 .1 .0) (h .1 .1 .1 .1 .1 .1 .0),
+              word-by (placesIn rec) y (h .1 .1 .1 .1 .0) (h .1 .1 .1 .1 .1 .1 .1 .0),
+              ltb-false (length out) (placesIn rec) (h .1 .1 .1 .1 .1 .0),
+            )),
         λ f. ap (λ (x : Answer). x .refusal) (combine-accepts rec x y out (f .0) (f .1) (f .2) (f .3) .0),
       );
       invert = λ w out. (
         (λ e.
-          let h = accepted-none (invertReasons rec w (length out)) refl e in (
-            true-usable rec (h .1 .0) (h .1 .1 .0),
-            word-by (placesIn rec) w (h .1 .1 .1 .0) (h .1 .1 .1 .1 .1 .0),
-            ltb-false (length out) (placesIn rec) (h .1 .1 .1 .1 .0),
-          )),
+            let h = accepted-none (invertReasons rec w (length out)) refl e in (
+              true-usable rec (h .1 .0) (h .1 .1 .0),
+              word-by (placesIn rec) w (h .1 .1 .1 .0) (h .1 .1 .1 .1 .1 .0),
+              ltb-false (length out) (placesIn rec) (h .1 .1 .1 .1 .0),
+            )),
         λ f. ap (λ (x : Answer). x .refusal) (invert-accepts rec w out (f .0) (f .1) (f .2) .0),
       );
       third = third-where rec;
