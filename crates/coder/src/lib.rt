@@ -13,7 +13,7 @@ ghost use denote.Ref.{ptr};
 ghost use Rattle.coder.specs.State.{fresh};
 ghost use Rattle.coder.specs.Calls.{inForce, refusedElement, opened, elementAt, wordLength, messageLength, syndromeAnswer, codewordAnswer, shown};
 ghost use Rattle.coder.specs.Calls.{encodeAnswer, encodeOutput, correctAnswer, correctOutput, combineAnswer, combineOutput, invertAnswer, invertOutput, thirdAnswer};
-ghost use Prim.Native.Nat.{_-_};
+ghost use Rattle.shortened.specs.Code.{newPlace};
 ghost use Rattle.shortened.specs.Calls.{faultFor};
 
 // Which code it is, of which s places are left out, how many corrections were accepted, and what they
@@ -257,7 +257,7 @@ fn fault(record: Record, word: &[u8]) -> u32
 
 // A place, renumbered.
 fn new_place(record: Record, place: u32) -> u32
-    ensures { λ x. ⌜ x ≡ place - («record» .s) ⌝ }
+    ensures { λ x. ⌜ x ≡ newPlace («record» .s) place ⌝ }
 {
     let s = record.s;
     if place < s {

@@ -2,7 +2,7 @@
 use mathlib.Core.Path.{_≡_, sym, ap, _∙_}
 use mathlib.Core.Bool.{Bool, true, false, _&&_}
 use mathlib.Core.List.{List, _++_}
-use Prim.Native.Nat.{ℕ, _+_, _-_, _≤_}
+use Prim.Native.Nat.{ℕ, _+_, _-_}
 use native.Mathlib.Omega.{arith}
 use borrow.Author.Tests.{eq-eqb, le-leb, leb-true}
 use lib.Dec.{eqb, leb}
@@ -21,16 +21,13 @@ use Rattle.shortened.proofs.Guards.{word-fits, message-fits}
 use Rattle.shortened.proofs.Filled.{syndrome-filled, fault-filled}
 
 -- ---- tests
-word-allowed : (t r s k : ℕ) → fitsWord t r s k ≡ true → allowedFor t r s ≡ true
+pub word-allowed : (t r s k : ℕ) → fitsWord t r s k ≡ true → allowedFor t r s ≡ true
 unfolding fitsWord
 word-allowed t r s k e = both (allowedFor t r s) (eqb k (placesOf t - s)) e .0
 
-message-allowed : (t r s k : ℕ) → fitsMessage t r s k ≡ true → allowedFor t r s ≡ true
+pub message-allowed : (t r s k : ℕ) → fitsMessage t r s k ≡ true → allowedFor t r s ≡ true
 unfolding fitsMessage
 message-allowed t r s k e = both (allowedFor t r s) (eqb k (messageOf t - s)) e .0
-
-room-by : (t r s room : ℕ) (b : Bool) → allowedFor t r s ≡ true → (allowedFor t r s && leb (placesOf t - s) room) ≡ b → leb (placesOf t - s) room ≡ b
-room-by t r s room b y e = ap (λ (a : Bool). a && leb (placesOf t - s) room) (sym y) ∙ e
 
 -- ---- the syndrome and the place at fault
 module _ (t r s : ℕ) (w : List ℕ) (y : fitsWord t r s (length w) ≡ true) where
@@ -60,30 +57,38 @@ fault-none t r s w y = rw y
 less-none : (n : ℕ) → n - 0 ≡ n
 less-none n = omega arith
 
+-- nothing is written where a test of what is read says no, or there is no room
+module _ (fits : Bool) (n : ℕ) (new old : List ℕ) where
+  unfit : fits ≡ false → old ≡ calls.written (fits && leb n (length old)) n new old
+  unfit y = rw y
+
+  narrow : fits ≡ true → leb n (length old) ≡ false → old ≡ calls.written (fits && leb n (length old)) n new old
+  narrow y e = rw (y, e)
+
+  wide : fits ≡ true → leb n (length old) ≡ true → new ++ drop n old ≡ calls.written (fits && leb n (length old)) n new old
+  wide y e = rw (y, e)
+
 module _ (t r s : ℕ) (m old : List ℕ) where
   pub encode-none : fitsMessage t r s (length m) ≡ false → old ≡ encodeFor t r s m old
   unfolding encodeFor
-  encode-none y = rw y
+  encode-none y = unfit (fitsMessage t r s (length m)) (placesOf t - s) (encode (moduliFor t r) s m) old y
 
   module _ (y : fitsMessage t r s (length m) ≡ true) where
-    pub encode-narrow : (allowedFor t r s && leb (placesOf t - s) (length old)) ≡ false → old ≡ encodeFor t r s m old
+    pub encode-narrow : leb (placesOf t - s) (length old) ≡ false → old ≡ encodeFor t r s m old
     unfolding encodeFor
-    encode-narrow e = rw (y, room-by t r s (length old) false (message-allowed t r s (length m) y) e)
+    encode-narrow e = narrow (fitsMessage t r s (length m)) (placesOf t - s) (encode (moduliFor t r) s m) old y e
 
-    module _ (e : (allowedFor t r s && leb (placesOf t - s) (length old)) ≡ true) where
-      pub encode-room : placesOf t - s ≤ length old
-      encode-room = leb-true (placesOf t - s) (length old) (room-by t r s (length old) true (message-allowed t r s (length m) y) e)
-
+    module _ (e : leb (placesOf t - s) (length old) ≡ true) where
       pub encode-else : encode (moduliFor t r) s m ++ drop (placesOf t - s) old ≡ encodeFor t r s m old
       unfolding encodeFor
-      encode-else = rw (y, room-by t r s (length old) true (message-allowed t r s (length m) y) e)
+      encode-else = wide (fitsMessage t r s (length m)) (placesOf t - s) (encode (moduliFor t r) s m) old y e
 
       pub encode-whole : s ≡ 0 → calls.encodeFor t r m old ≡ encodeFor t r s m old
       unfolding calls.encodeFor encode
       encode-whole z =
           let f = message-fits t r s (length m) y in
           let a = f .all in
-          let g = encode-room in
+          let g = leb-true (placesOf t - s) (length old) e in
           rw (admitted-admits t r (f .admitted), eq-eqb (length m) (messageOf t) (omega arith), le-leb (placesOf t) (length old) (omega arith))
           (ap (λ (k : ℕ). coding.encode (moduliFor t r) m ++ drop k old) (sym (less-none (placesOf t)))
           ∙ ap (λ (k : ℕ). encode (moduliFor t r) k m ++ drop (placesOf t - k) old) (sym z) ∙ encode-else)
@@ -91,27 +96,24 @@ module _ (t r s : ℕ) (m old : List ℕ) where
 module _ (t r s : ℕ) (w old : List ℕ) where
   pub invert-none : fitsWord t r s (length w) ≡ false → old ≡ invertFor t r s w old
   unfolding invertFor
-  invert-none y = rw y
+  invert-none y = unfit (fitsWord t r s (length w)) (placesOf t - s) (inverse (moduliFor t r) s w) old y
 
   module _ (y : fitsWord t r s (length w) ≡ true) where
-    pub invert-narrow : (allowedFor t r s && leb (placesOf t - s) (length old)) ≡ false → old ≡ invertFor t r s w old
+    pub invert-narrow : leb (placesOf t - s) (length old) ≡ false → old ≡ invertFor t r s w old
     unfolding invertFor
-    invert-narrow e = rw (y, room-by t r s (length old) false (word-allowed t r s (length w) y) e)
+    invert-narrow e = narrow (fitsWord t r s (length w)) (placesOf t - s) (inverse (moduliFor t r) s w) old y e
 
-    module _ (e : (allowedFor t r s && leb (placesOf t - s) (length old)) ≡ true) where
-      pub word-space : placesOf t - s ≤ length old
-      word-space = leb-true (placesOf t - s) (length old) (room-by t r s (length old) true (word-allowed t r s (length w) y) e)
-
+    module _ (e : leb (placesOf t - s) (length old) ≡ true) where
       pub invert-else : inverse (moduliFor t r) s w ++ drop (placesOf t - s) old ≡ invertFor t r s w old
       unfolding invertFor
-      invert-else = rw (y, room-by t r s (length old) true (word-allowed t r s (length w) y) e)
+      invert-else = wide (fitsWord t r s (length w)) (placesOf t - s) (inverse (moduliFor t r) s w) old y e
 
       pub invert-whole : s ≡ 0 → calls.invertFor t r w old ≡ invertFor t r s w old
       unfolding calls.invertFor inverse
       invert-whole z =
           let f = word-fits t r s (length w) y in
           let a = f .all in
-          let g = word-space in
+          let g = leb-true (placesOf t - s) (length old) e in
           rw (admitted-admits t r (f .admitted), le-leb (placesOf t) (length w) (omega arith), le-leb (placesOf t) (length old) (omega arith))
           (ap (λ (k : ℕ). words.inverse (slots (moduliFor t r)) w ++ drop k old) (sym (less-none (placesOf t)))
           ∙ ap (λ (k : ℕ). inverse (moduliFor t r) k w ++ drop (placesOf t - k) old) (sym z) ∙ invert-else)
@@ -127,14 +129,14 @@ module _ (t r s : ℕ) (x w old : List ℕ) where
     combine-second y = rw (v, y)
 
     module _ (y : fitsWord t r s (length w) ≡ true) where
-      pub combine-narrow : (allowedFor t r s && leb (placesOf t - s) (length old)) ≡ false → old ≡ combineFor t r s x w old
+      pub combine-narrow : leb (placesOf t - s) (length old) ≡ false → old ≡ combineFor t r s x w old
       unfolding combineFor
-      combine-narrow e = rw (v, y, room-by t r s (length old) false (word-allowed t r s (length w) y) e)
+      combine-narrow e = rw (v, y, e)
 
-      module _ (e : (allowedFor t r s && leb (placesOf t - s) (length old)) ≡ true) where
+      module _ (e : leb (placesOf t - s) (length old) ≡ true) where
         pub combine-else : combine (moduliFor t r) s x w ++ drop (placesOf t - s) old ≡ combineFor t r s x w old
         unfolding combineFor
-        combine-else = rw (v, y, room-by t r s (length old) true (word-allowed t r s (length w) y) e)
+        combine-else = rw (v, y, e)
 
         pub combine-whole : s ≡ 0 → calls.combineFor t r x w old ≡ combineFor t r s x w old
         unfolding calls.combineFor combine
@@ -142,7 +144,7 @@ module _ (t r s : ℕ) (x w old : List ℕ) where
             let f = word-fits t r s (length w) y in
             let a = f .all in
             let b = word-fits t r s (length x) v .all in
-            let g = word-space t r s w old y e in
+            let g = leb-true (placesOf t - s) (length old) e in
             rw (
               admitted-admits t r (f .admitted),
               le-leb (placesOf t) (length x) (omega arith),

@@ -5,7 +5,7 @@
 mod fill;
 
 ghost use mathlib.Core.Path.{_≡_};
-ghost use mathlib.Core.Bool.{_&&_};
+ghost use mathlib.Core.Bool.{true, _&&_};
 ghost use Prim.Native.Nat.{_-_};
 ghost use lib.Dec.{leb, ltb};
 ghost use Rattle.layout.specs.Parameters.{placesOf};
@@ -68,15 +68,13 @@ fn fits_message(t: u32, r: u32, s: u32, count: usize) -> bool
     false
 }
 
-// Whether an output has room for a word.
+// Whether an output has room for a word, where s is allowed.
 fn has_room(t: u32, r: u32, s: u32, room: usize) -> bool
-    ensures { λ x. ⌜ x ≡ (allowedFor t r s && leb (placesOf t - s) room) ⌝ }
+    requires { ⌜ allowedFor t r s ≡ true ⌝ }
+    ensures { λ x. ⌜ x ≡ leb (placesOf t - s) room ⌝ }
 {
-    if allowed(t, r, s) {
-        let h = layout::shape_of(t, r);
-        return (h.places - s) as usize <= room;
-    }
-    false
+    let h = layout::shape_of(t, r);
+    (h.places - s) as usize <= room
 }
 
 // The syndrome of a word; zero where it is none of the code.

@@ -1,13 +1,14 @@
 -- `shortened::combine` meets its contract. Assumes nothing.
-use mathlib.Core.Bool.{true, _&&_}
+use mathlib.Core.Bool.{true}
 use mathlib.Core.Path.{_≡_, sym, _∙_}
 use Prim.Native.Nat.{_-_}
 use lib.ListN.{length}
 use lib.Dec.{leb}
+use borrow.Author.Tests.{leb-true}
 use borrow.Author.Needs.{needs}
 use Rattle.layout.specs.Parameters.{placesOf}
-use Rattle.shortened.specs.Calls.{allowedFor, fitsWord}
-use Rattle.shortened.proofs.Answers.{combine-whole, combine-else, combine-none, combine-second, combine-narrow, word-space}
+use Rattle.shortened.specs.Calls.{fitsWord}
+use Rattle.shortened.proofs.Answers.{combine-whole, combine-else, combine-none, combine-second, combine-narrow, word-allowed}
 use Rattle.shortened.proofs.Guards.{word-fits}
 use Rattle.shortened.proofs.combine.Statement.{statement}
 use Rattle.shortened.proofs.combine.Tie as tie
@@ -17,9 +18,6 @@ fits-word-requires c κs = search needs
 
 fits-word-requires-2 : tie.Need-fits-word-requires-2
 fits-word-requires-2 c κs = search needs
-
-has-room-requires : tie.Need-has-room-requires
-has-room-requires c κs = search needs
 
 combine-requires : tie.Need-combine-requires
 combine-requires c κs = search needs
@@ -34,7 +32,10 @@ ok c = sym (c .before .fits-word .ensures) ∙ c .if1 .taken
 okay : (c : tie.Then2) → let g = c .before .before .before .before .before .before .before .args in fitsWord (g .t) (g .r) (g .s) (length (g .second .now)) ≡ true
 okay c = sym (c .before .fits-word2 .ensures) ∙ c .if2 .taken
 
-wide : (c : tie.Then3) → let g = c .before .before .before .before .before .before .before .before .before .args in (allowedFor (g .t) (g .r) (g .s) && leb (placesOf (g .t) - g .s) (length (g .out .now))) ≡ true
+has-room-requires : tie.Need-has-room-requires
+has-room-requires c κs = word-allowed _ _ _ _ (okay c)
+
+wide : (c : tie.Then3) → let g = c .before .before .before .before .before .before .before .before .before .args in leb (placesOf (g .t) - g .s) (length (g .out .now)) ≡ true
 wide c = sym (c .before .has-room .ensures) ∙ c .if3 .taken
 
 returns : tie.Need-returns
@@ -47,7 +48,7 @@ combine-requires-2 : tie.Need-combine-requires-2
 combine-requires-2 c κs =
     let u = c .before .before in
     let y = okay (u .before .before) in
-    (word-fits _ _ _ _ (ok (u .before .before .before .before)), word-fits _ _ _ _ y, word-space _ _ _ (u .before .before .before .before .before .before .before .before .before .args .second .now) (u .before .before .before .before .before .before .before .before .before .args .out .now) y (wide u))
+    (word-fits _ _ _ _ (ok (u .before .before .before .before)), word-fits _ _ _ _ y, leb-true _ _ (wide u))
 
 same-length-2 : tie.Need-same-length-2
 same-length-2 c = search needs

@@ -1,22 +1,20 @@
 -- `shortened::encode` meets its contract. Assumes nothing.
-use mathlib.Core.Bool.{true, _&&_}
+use mathlib.Core.Bool.{true}
 use mathlib.Core.Path.{_≡_, sym, _∙_}
 use Prim.Native.Nat.{_-_}
 use lib.ListN.{length}
 use lib.Dec.{leb}
+use borrow.Author.Tests.{leb-true}
 use borrow.Author.Needs.{needs}
 use Rattle.layout.specs.Parameters.{placesOf}
-use Rattle.shortened.specs.Calls.{allowedFor, fitsMessage}
-use Rattle.shortened.proofs.Answers.{encode-whole, encode-else, encode-none, encode-narrow, encode-room}
+use Rattle.shortened.specs.Calls.{fitsMessage}
+use Rattle.shortened.proofs.Answers.{encode-whole, encode-else, encode-none, encode-narrow, message-allowed}
 use Rattle.shortened.proofs.Guards.{message-fits}
 use Rattle.shortened.proofs.encode.Statement.{statement}
 use Rattle.shortened.proofs.encode.Tie as tie
 
 fits-message-requires : tie.Need-fits-message-requires
 fits-message-requires c κs = search needs
-
-has-room-requires : tie.Need-has-room-requires
-has-room-requires c κs = search needs
 
 encode-requires : tie.Need-encode-requires
 encode-requires c κs = search needs
@@ -28,7 +26,10 @@ same-length c = search needs
 ok : (c : tie.Then1) → let g = c .before .before .before .before .args in fitsMessage (g .t) (g .r) (g .s) (length (g .message .now)) ≡ true
 ok c = sym (c .before .fits-message .ensures) ∙ c .if1 .taken
 
-wide : (c : tie.Then2) → let g = c .before .before .before .before .before .before .args in (allowedFor (g .t) (g .r) (g .s) && leb (placesOf (g .t) - g .s) (length (g .out .now))) ≡ true
+has-room-requires : tie.Need-has-room-requires
+has-room-requires c κs = message-allowed _ _ _ _ (ok c)
+
+wide : (c : tie.Then2) → let g = c .before .before .before .before .before .before .args in leb (placesOf (g .t) - g .s) (length (g .out .now)) ≡ true
 wide c = sym (c .before .has-room .ensures) ∙ c .if2 .taken
 
 returns : tie.Need-returns
@@ -37,7 +38,7 @@ returns c =
     c .before .before .encode .ensures ∙ encode-whole _ _ _ _ _ (ok (q .before .before .before)) (wide (q .before)) (q .if3 .taken)
 
 encode-requires-2 : tie.Need-encode-requires-2
-encode-requires-2 c κs = let q = c .before .before in (message-fits _ _ _ _ (ok (q .before .before)), encode-room _ _ _ (q .before .before .before .before .before .before .args .message .now) (q .before .before .before .before .before .before .args .out .now) (ok (q .before .before)) (wide q))
+encode-requires-2 c κs = let q = c .before .before in (message-fits _ _ _ _ (ok (q .before .before)), leb-true _ _ (wide q))
 
 same-length-2 : tie.Need-same-length-2
 same-length-2 c = search needs

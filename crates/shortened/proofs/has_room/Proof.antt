@@ -1,37 +1,20 @@
 -- `shortened::has_room` meets its contract. Assumes nothing.
-use mathlib.Core.Bool.{true}
-use mathlib.Core.Path.{_≡_, sym, _∙_}
 use borrow.Author.Needs.{needs}
-use Rattle.shortened.specs.Calls.{allowedFor}
 use Rattle.shortened.proofs.Guards.{still, places-are}
 use Rattle.shortened.proofs.has_room.Statement.{statement}
 use Rattle.shortened.proofs.has_room.Tie as tie
 
-allowed-requires : tie.Need-allowed-requires
-allowed-requires c κs = search needs
-
 shape-of-requires : tie.Need-shape-of-requires
 shape-of-requires c κs = search needs
 
--- past the test s is allowed
-ok : (c : tie.Then1) → allowedFor (c .before .before .args .t) (c .before .before .args .r) (c .before .before .args .s) ≡ true
-ok c = sym (c .before .allowed .ensures) ∙ c .if1 .taken
-
 sub-result : tie.Need-sub-result
-sub-result c = still _ _ _ (ok (c .before .before)) _ (c .before .shape-of .ensures) .0
+sub-result c = still _ _ _ (c .before .before .pre) _ (c .before .shape-of .ensures) .0
 
 cast-result : tie.Need-cast-result
 cast-result c = search needs
 
 returns : tie.Need-returns
-returns c =
-    let y = ok (c .before .before) in
-    rw (y, places-are _ _ _ y _ (c .before .shape-of .ensures))
-
-returns-2 : tie.Need-returns-2
-returns-2 c = rw (sym (c .before .allowed .ensures) ∙ c .if1 .left)
+returns c = rw (places-are _ _ _ (c .before .before .pre) _ (c .before .shape-of .ensures))
 
 pub has-room-spec : {M : Type 1} → statement M
-has-room-spec =
-    tie.close
-    (tie.spec allowed-requires shape-of-requires sub-result cast-result returns returns-2)
+has-room-spec = tie.close (tie.spec shape-of-requires sub-result cast-result returns)

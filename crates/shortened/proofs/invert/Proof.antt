@@ -1,22 +1,20 @@
 -- `shortened::invert` meets its contract. Assumes nothing.
-use mathlib.Core.Bool.{true, _&&_}
+use mathlib.Core.Bool.{true}
 use mathlib.Core.Path.{_≡_, sym, _∙_}
 use Prim.Native.Nat.{_-_}
 use lib.ListN.{length}
 use lib.Dec.{leb}
+use borrow.Author.Tests.{leb-true}
 use borrow.Author.Needs.{needs}
 use Rattle.layout.specs.Parameters.{placesOf}
-use Rattle.shortened.specs.Calls.{allowedFor, fitsWord}
-use Rattle.shortened.proofs.Answers.{invert-whole, invert-else, invert-none, invert-narrow, word-space}
+use Rattle.shortened.specs.Calls.{fitsWord}
+use Rattle.shortened.proofs.Answers.{invert-whole, invert-else, invert-none, invert-narrow, word-allowed}
 use Rattle.shortened.proofs.Guards.{word-fits}
 use Rattle.shortened.proofs.invert.Statement.{statement}
 use Rattle.shortened.proofs.invert.Tie as tie
 
 fits-word-requires : tie.Need-fits-word-requires
 fits-word-requires c κs = search needs
-
-has-room-requires : tie.Need-has-room-requires
-has-room-requires c κs = search needs
 
 invert-requires : tie.Need-invert-requires
 invert-requires c κs = search needs
@@ -28,7 +26,10 @@ same-length c = search needs
 ok : (c : tie.Then1) → let g = c .before .before .before .before .args in fitsWord (g .t) (g .r) (g .s) (length (g .word .now)) ≡ true
 ok c = sym (c .before .fits-word .ensures) ∙ c .if1 .taken
 
-wide : (c : tie.Then2) → let g = c .before .before .before .before .before .before .args in (allowedFor (g .t) (g .r) (g .s) && leb (placesOf (g .t) - g .s) (length (g .out .now))) ≡ true
+has-room-requires : tie.Need-has-room-requires
+has-room-requires c κs = word-allowed _ _ _ _ (ok c)
+
+wide : (c : tie.Then2) → let g = c .before .before .before .before .before .before .args in leb (placesOf (g .t) - g .s) (length (g .out .now)) ≡ true
 wide c = sym (c .before .has-room .ensures) ∙ c .if2 .taken
 
 returns : tie.Need-returns
@@ -37,7 +38,7 @@ returns c =
     c .before .before .invert .ensures ∙ invert-whole _ _ _ _ _ (ok (q .before .before .before)) (wide (q .before)) (q .if3 .taken)
 
 invert-requires-2 : tie.Need-invert-requires-2
-invert-requires-2 c κs = let q = c .before .before in (word-fits _ _ _ _ (ok (q .before .before)), word-space _ _ _ (q .before .before .before .before .before .before .args .word .now) (q .before .before .before .before .before .before .args .out .now) (ok (q .before .before)) (wide q))
+invert-requires-2 c κs = let q = c .before .before in (word-fits _ _ _ _ (ok (q .before .before)), leb-true _ _ (wide q))
 
 same-length-2 : tie.Need-same-length-2
 same-length-2 c = search needs
