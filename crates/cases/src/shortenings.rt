@@ -90,7 +90,7 @@ pub(crate) fn layouts() {
     ends(shorter(made(10, 5, 0, 0, 0, 0), 1011));
 }
 
-// Every call, where only the record can be at fault: four places would be left with s = 3.
+// Every call, with what would fit (3,2) with s = 3, were it allowed.
 fn every(code: Record) {
     lengths(code);
     element(code, 1);
@@ -131,5 +131,6 @@ pub(crate) fn states() {
     all_wrong(shorter(made(0, 2, 1, 0, 0, 0), 3));
     all_wrong(shorter(made(3, 2, 1, 0, 0, 0), 3));
     all_wrong(shorter(made(3, 2, 0, 0, 0, 0), 3));
+    text(b"several reasons with an s that is allowed: the first is given\n");
     all_wrong(shorter(made(3, 2, 0, 0, 0, 0), 1));
 }

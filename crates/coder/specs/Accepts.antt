@@ -13,7 +13,7 @@ use Rattle.coder.specs.Calls.{elementAt, syndromeAnswer, codewordAnswer,
 use Rattle.coder.specs.Demand3Shortened.{HasNear}
 use Rattle.coder.specs.declared.Record.{Record}
 
--- p is a place, w a word and m a message of the record's code, and an output of so many bytes has room for a word
+-- p is a place, w a word and m a message of the record's code, and the output has room for a word
 abbrev pub IsPlace : Record → ℕ → Type 0
 IsPlace rec p = (0 < p) × (p ≤ placesOf (rec .t) - rec .s)
 

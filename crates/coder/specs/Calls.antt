@@ -82,7 +82,7 @@ codewordAnswer rec w =
     record { refusal = x .number; place = x .place; yes = ifAccepted (x .number) (isCodewordIn rec w) false }
 
 -- "Reading shows the message as the first n − t bytes of the lent codeword itself, not a copy" (document 01), "an empty part exactly when
--- the record or word would be refused or the word is no codeword"
+-- the record or word would be refused or the word is no codeword"; in a shortened code the message has n − t − s
 unfoldable pub shown : Record → List ℕ → List ℕ
 shown rec w = ifAccepted (firstReason (wordReasons rec w) .number) (pick (isCodewordIn rec w) (take (messageIn rec) w) []) []
 

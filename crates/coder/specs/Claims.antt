@@ -65,7 +65,7 @@ pub record TellsPlaceOfTwo (x p : ℕ) (v w : List ℕ) : Type 0 where
   pub none : x ≢ 4 → p ≡ 0
   pub lowest : x ≡ 4 → Lowest v p ⊎ (Bits v × Lowest w p)
 
--- "Each message gives the one codeword that begins with it, reading that codeword shows the message": what encoding wrote into the first n
+-- "Each message gives the one codeword that begins with it, reading that codeword shows the message": what encoding wrote into the first n − s
 -- bytes of an output, and what reading them shows with any usable record of the same t, r and s
 pub record Encodes (rec : Record) (m out : List ℕ) : Type 0 where
   pub accepted : encodeAnswer rec m out ≡ record { refusal = 0; place = 0 }
@@ -75,7 +75,7 @@ pub record Encodes (rec : Record) (m out : List ℕ) : Type 0 where
   pub further : drop (placesIn rec) (encodeOutput rec m out) ≡ drop (placesIn rec) out
   pub shows : (other : Record) → RecordOf (rec .t) (rec .r) (rec .s) other → shown other (take (placesIn rec) (encodeOutput rec m out)) ≡ m
 
--- what combining wrote into the first n bytes of an output: a word, the same in either order with any record of the code, and a codeword
+-- what combining wrote into the first n − s bytes of an output: a word, the same in either order with any record of the code, and a codeword
 -- where both are
 pub record Combines (rec : Record) (x y out : List ℕ) : Type 0 where
   pub accepted : combineAnswer rec x y out ≡ record { refusal = 0; place = 0 }
@@ -85,7 +85,7 @@ pub record Combines (rec : Record) (x y out : List ℕ) : Type 0 where
   pub codeword : CodewordIn rec x → CodewordIn rec y → CodewordIn rec (take (placesIn rec) (combineOutput rec x y out))
   pub further : drop (placesIn rec) (combineOutput rec x y out) ≡ drop (placesIn rec) out
 
--- what the inverse call wrote into the first n bytes of an output: the word that makes the zero word when w is combined with it, with any
+-- what the inverse call wrote into the first n − s bytes of an output: the word that makes the zero word when w is combined with it, with any
 -- record of the code
 pub record Inverts (rec : Record) (w out : List ℕ) : Type 0 where
   pub accepted : invertAnswer rec w out ≡ record { refusal = 0; place = 0 }

@@ -16,7 +16,7 @@ use Rattle.coder.specs.Claims.{byteAt}
 use Rattle.coder.specs.declared.Record.{Record}
 
 -- "Each of these calls .. may have an open and fit record of its own, with the same t and r" (document 01), and an output long enough,
--- whatever it holds; of request C-17 "the same [s] in each record", which for demand 3 is 0
+-- whatever it holds; and, by request C-17, "the same [s] in each record", which for demand 3 is 0
 pub record Own (t r s : ℕ) : Type 0 where
   pub given : Record
   pub code : RecordOf t r s given

@@ -1,4 +1,4 @@
--- Request C-17 of demand 3: "for any other allowed s, the same in each record, a word has at most one codeword within one place, which
+-- What request C-17 says of demand 3: "for any other allowed s, the same in each record, a word has at most one codeword within one place, which
 -- correction gives on the same terms where there is one". The theorem is `demand3-shortened : Demand3Shortened` (proofs/Demand3Shortened), for every allowed s, 0
 -- among them. Assumes nothing.
 use mathlib.Core.Path.{_≡_}

@@ -1,4 +1,5 @@
--- Document 01, "Turned back because of the input" and "because of the state": each reason with its number and whether it applies.
+-- Document 01, "Turned back because of the input" and "because of the state", and request C-17 (10, 11): each reason with its number and
+-- whether it applies.
 -- Assumes nothing.
 use mathlib.Core.Bool.{Bool, true, false, _&&_, _||_, not}
 use mathlib.Core.List.{List, [], _∷_}
@@ -70,7 +71,7 @@ badPlace w = badFrom 1 w
 abbrev pub badByte : List ℕ → Reason
 badByte w = record { number = 4; place = badPlace w; applies = not (eqb (badPlace w) 0) }
 
--- "5. A place outside 1 to n."
+-- "5. A place outside 1 to n.", n − s in a shortened code
 abbrev pub outside : Record → ℕ → Reason
 outside rec p = because 5 (eqb p 0 || ltb (placesIn rec) p)
 

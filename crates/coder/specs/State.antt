@@ -57,7 +57,7 @@ pub record RecordOf (t r s : ℕ) (rec : Record) : Type 0 where
 abbrev pub moduliIn : Record → List Modulus
 moduliIn rec = moduliFor (rec .t) (rec .r)
 
--- n − s, the places of a message, n − t − s, and the number of the element of a place, for a record that is usable
+-- n − s, the places of a word; n − t − s, those of a message; and the number of the element of a place; for a record that is usable
 unfoldable pub placesIn : Record → ℕ
 placesIn rec = placesOf (rec .t) - rec .s
 
@@ -129,7 +129,7 @@ ThreeIn rec i j k = claims.ThreeAt (moduliIn rec) (rec .s) i j k
 abbrev pub fullCount : ℕ
 fullCount = 4294967295
 
--- a place of part 1 or 3 of the layout, and one of part 2 or 4
+-- a place that was of part 1 or 3 of the layout before renumbering, and one that was of part 2 or 4
 unfoldable pub isBinaryIn : Record → ℕ → Bool
 isBinaryIn rec p = shortened.isBinary (moduliIn rec) (rec .s) p
 

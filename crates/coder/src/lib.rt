@@ -1,9 +1,9 @@
 // The calls of document 01 on a record. Every input is answered. A refusal is a number; 0 says that the
 // call is accepted. What each call answers is defined in specs/Calls.antt; proofs/Refusals.antt has
 // the theorems on refusals. Whether a record is usable is found in fit.rt, what is wrong with a word,
-// an output or a place in check.rt; count.rt counts; the work on plain words, of which the first s
-// places of the whole code's are left out, is done by crate shortened. Demand 3, on encode, correct and
-// combine, is proofs/Demand3.antt, and its sister for shortened codes proofs/Demand3Shortened.antt.
+// an output or a place in check.rt; count.rt counts; the work on plain words of the shortened code is done
+// by crate shortened, a correction's flip by crate words. Demand 3, on encode, correct and combine, is
+// proofs/Demand3.antt, and its sister for shortened codes proofs/Demand3Shortened.antt.
 mod check;
 mod count;
 mod fit;

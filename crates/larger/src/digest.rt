@@ -1,5 +1,5 @@
 // What stands in one line for many answers: counts, and a digest of a list of numbers, which is a number that
-// has them, each one more, as its digits to the base 48271, modulo 2^31 - 1.
+// has them, each one more, as its digits to the base 48271, modulo 2^31 - 1; its first digit is 1.
 
 // The digest with one number more.
 pub(crate) fn fold(x: u32, v: u32) -> u32 {

@@ -33,7 +33,7 @@ fn with_each_s(t: u32, r: u32) {
     }
 }
 
-// A record that was refused has no places.
+// A refused opening gives the closed record, which has no places.
 fn open(code: Record) {
     let n = coder::word_length(code);
     if n == 0 {

@@ -1,6 +1,7 @@
-// Every opening of one code: a line with the number of s from 0 to 1,025 that are allowed, and a digest. In it
-// are what each opening gave, its refusal, s and lengths, and what the layout's call gave for place 1 with a
-// record that has the same t, r and s but was not opened, its refusal and the element.
+// Every opening with one t and r, admitted or not: a line with the number of s from 0 to 1,025 that are
+// allowed, and a digest. In it are what each opening gave, its refusal, s and lengths, and what the layout's
+// call gave for place 1 with a record that has the same t, r and s but was not opened, its refusal and the
+// element.
 use crate::digest::count;
 use crate::digest::fold;
 use crate::lines::number;

@@ -52,7 +52,7 @@ module _ (ms : List Modulus) (s : ℕ) (c : EndsBetween ms s) where
       go (yes k) = (omega arith, k)
       go (no k) = let m = index-right d i (omega arith) in absurd (omega (arith, h .1))
 
-  -- ---- (f)
+  -- ---- the theorem
   module _ (l : s ≤ lengthOf ms) (d w : List ℕ) (k : Codeword ms s d) (h : Word (lengthOf ms - s) w) where
     entire : claims.CarriedBy ms (fill s d) (fill s w)
     entire = whole.carried ms (fill s d) (fill s w) k (word-fill (lengthOf ms) s l h)

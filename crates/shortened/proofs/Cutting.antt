@@ -58,7 +58,7 @@ other-kept ms (pair z ∷ sl) sk zero h = absurd (omega arith)
 other-kept ms (pair z ∷ sl) sk (suc zero) h = absurd (omega arith)
 other-kept ms (pair z ∷ sl) sk (suc (suc i)) h = let k = other-kept ms sl sk i (omega arith) in omega arith
 
--- ---- (b)
+-- ---- combining and inverse of filled words
 module _ (ms : List Modulus) (s : ℕ) (c : EndsBetween ms s) where
   -- what is kept of the slots: of the message, and the check
   abbrev rest : List Slot

@@ -10,7 +10,7 @@ use Rattle.words.specs.Words.{Bits, Word, zeroWord, weight, distance, flipAt, f
 use Rattle.shortened.specs.Code.{fill, oldPlace, newPlace, LeftOut}
 use Rattle.shortened.specs.Claims.{Fills}
 
--- ---- (a)
+-- ---- filling and dropping
 pub length-fill : (s : ℕ) (w : List ℕ) → length (fill s w) ≡ s + length w
 length-fill s w = length-append (zeroWord s) w ∙ ap (λ (n : ℕ). n + length w) (length-replicate s 0)
 

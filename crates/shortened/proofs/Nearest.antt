@@ -35,12 +35,12 @@ module _ (ms : List Modulus) (s : ℕ) (l : s ≤ lengthOf ms) (w : List ℕ) (h
   place-kept : (p : ℕ) → p ≤ n - s → Codeword ms s (flip p w) → LeftOut s (correctedOldPlace ms s w) → ⊥
   place-kept p k c x = old-kept s p (subst (LeftOut s) (sym (place-old p k c)) x)
 
-  -- ---- (c)
+  -- ---- at most one
   pub only : (c : List ℕ) → Codeword ms s c → distance c w ≤ 1 → c ≡ corrected ms s w
   unfolding corrected
   only c k d = sym (dropped s c) ∙ ap (drop s) (whole .only (fill s c) k (rw (distance-fill s c w) d))
 
-  -- ---- (d)
+  -- ---- none where the place is left out
   none : LeftOut s (correctedOldPlace ms s w) → (c : List ℕ) → Codeword ms s c → distance c w ≤ 1 → ⊥
   none x c k d =
       let v = fill-word n s (k .isWord) in

@@ -23,7 +23,7 @@ fitsWord t r s k = allowedFor t r s && eqb k (placesOf t - s)
 unfoldable pub fitsMessage : ℕ → ℕ → ℕ → ℕ → Bool
 fitsMessage t r s k = allowedFor t r s && eqb k (messageOf t - s)
 
--- the same as a statement, of n bytes with the s that are left out
+-- the same as a statement: k bytes and the s that are left out make n
 pub record Fits (t r s n k : ℕ) : Type 0 where
   pub admitted : Admitted t r
   pub allowed : Allowed t r s
@@ -52,10 +52,11 @@ invertFor t r s w old =
 unfoldable pub widthFor : ℕ → ℕ → ℕ → ℕ → ℕ
 widthFor t r s p = pick (allowedFor t r s) (width (moduliFor t r) s p) 0
 
--- the third place, by its old number, or 0 where i and j are not two places
+-- whether p is a place
 abbrev pub isPlace : ℕ → ℕ → ℕ → Bool
 isPlace t s p = leb 1 p && leb p (placesOf t - s)
 
+-- the third place, by its old number, or 0 where i and j are not two places
 unfoldable pub thirdFor : ℕ → ℕ → ℕ → ℕ → ℕ → ℕ
 thirdFor t r s i j =
     pick (allowedFor t r s && (isPlace t s i && (isPlace t s j && not (eqb i j)))) (thirdOldPlace (moduliFor t r) s i j) 0

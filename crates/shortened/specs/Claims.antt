@@ -20,8 +20,8 @@ use Rattle.words.specs.Coding as coding
 use Rattle.shortened.specs.Code.{fill, oldPlace, LeftOut, Codeword, encode, combine, inverse, correctedOldPlace, corrected, correctedPlace, thirdOldPlace, third, moved}
 use Rattle.shortened.specs.Code as shortened
 
--- s ends between two slots of the message, so not within a pair, and one of them is kept. For admitted t and r these are the allowed s
--- (`allowed-between`)
+-- s is 0 or ends where a slot of the message ends, so not within a pair, and at least one slot is kept. For admitted t and r these are the
+-- allowed s (`allowed-between`)
 pub record EndsBetween (ms : List Modulus) (s : ℕ) : Type 0 where
   pub gone : List Slot
   pub kept : List Slot
@@ -45,12 +45,12 @@ pub record WholeOf (ms : List Modulus) : Type 0 where
   pub moved : (d : List ℕ) (p : ℕ) → moved ms 0 d p ≡ halves.moved (slots ms) d p
   pub leftOut : (q : ℕ) → LeftOut 0 q → ⊥
 
--- (a) filling and dropping are inverse to each other on words whose first s places are 0
+-- filling and dropping are inverse to each other on words whose first s places are 0
 pub record Fills (s : ℕ) : Type 0 where
   pub dropped : (w : List ℕ) → drop s (fill s w) ≡ w
   pub filled : (w : List ℕ) → take s w ≡ zeroWord s → fill s (drop s w) ≡ w
 
--- (b) combining, inverse and flipping are those of the filled words: nothing but zeros is dropped
+-- combining, inverse and flipping are those of the filled words: nothing but zeros is dropped
 pub record Commutes (ms : List Modulus) (s : ℕ) : Type 0 where
   pub combines : (x y : List ℕ) → fill s (combine ms s x y) ≡ words.combine (slots ms) (fill s x) (fill s y)
   pub inverts : (w : List ℕ) → fill s (inverse ms s w) ≡ words.inverse (slots ms) (fill s w)
@@ -71,7 +71,7 @@ pub record GroupOf (ms : List Modulus) (s : ℕ) : Type 0 where
   pub ones : (p : ℕ) → p ≤ lengthOf ms - s → shortened.syndrome ms s (flip p (zeroWord (lengthOf ms - s))) ≡ shortened.elementAt ms s p
   pub sums : (x y : List ℕ) → Codeword ms s x → Codeword ms s y → Codeword ms s (combine ms s x y)
 
--- (c), (d) at most one codeword is within one place of w. There is one exactly where the code's correction of the filled word does not fall in
+-- at most one codeword is within one place of w. There is one exactly where the code's correction of the filled word does not fall in
 -- a left-out place, and then it is that, and the place is that, renumbered
 pub record NearestTo (ms : List Modulus) (s : ℕ) (w : List ℕ) : Type 0 where
   pub only : (c : List ℕ) → Codeword ms s c → distance c w ≤ 1 → c ≡ corrected ms s w
@@ -85,25 +85,26 @@ pub record NearestTo (ms : List Modulus) (s : ℕ) (w : List ℕ) : Type 0 where
   pub place : (p : ℕ) → p ≤ lengthOf ms - s → Codeword ms s (flip p w)
       → (LeftOut s (correctedOldPlace ms s w) → ⊥) × (p ≡ correctedPlace ms s w)
 
--- (e) encoding gives the one codeword that begins with the message
+-- encoding gives the one codeword that begins with the message
 pub record EncodingOf (ms : List Modulus) (s : ℕ) (m : List ℕ) : Type 0 where
   pub codeword : Codeword ms s (encode ms s m)
   pub begins : take (messageLengthOf ms - s) (encode ms s m) ≡ m
   pub only : (c : List ℕ) → Codeword ms s c → take (messageLengthOf ms - s) c ≡ m → c ≡ encode ms s m
 
--- (f) combining with a codeword d carries correction along, and w has a codeword within one place exactly where d combined with w has
+-- combining with a codeword d carries correction along, and w has a codeword within one place exactly where d combined with w has
 pub record CarriedBy (ms : List Modulus) (s : ℕ) (d w : List ℕ) : Type 0 where
   pub both : LeftOut s (correctedOldPlace ms s (combine ms s d w)) ↔ LeftOut s (correctedOldPlace ms s w)
   pub corrects : (LeftOut s (correctedOldPlace ms s w) → ⊥) → corrected ms s (combine ms s d w) ≡ combine ms s d (corrected ms s w)
   pub place : (LeftOut s (correctedOldPlace ms s w) → ⊥) → correctedPlace ms s (combine ms s d w) ≡ moved ms s d (correctedPlace ms s w)
 
--- k makes a codeword of weight 3 with i and j; at most one does, and one does exactly where the code's third place is not left out
+-- k makes a codeword of weight 3 with i and j
 pub record ThreeAt (ms : List Modulus) (s i j k : ℕ) : Type 0 where
   pub least : 0 < k
   pub most : k ≤ lengthOf ms - s
   pub codeword : Codeword ms s (onesAt (lengthOf ms - s) i j k)
   pub weighs : weight (onesAt (lengthOf ms - s) i j k) ≡ 3
 
+-- at most one does, and one does exactly where the whole code's third place is not left out
 pub record ThirdOf (ms : List Modulus) (s i j : ℕ) : Type 0 where
   pub makes : (LeftOut s (thirdOldPlace ms s i j) → ⊥) → ThreeAt ms s i j (third ms s i j)
   pub only : (k : ℕ) → ThreeAt ms s i j k → (LeftOut s (thirdOldPlace ms s i j) → ⊥) × (k ≡ third ms s i j)

@@ -68,8 +68,8 @@ impl Code {
         whole.shortened(s)
     }
 
-    /// The code of an array that has the paper's four parts; the order within parts 1 and 2
-    /// is free.
+    /// The code of an array that has the paper's four parts, or of such an array without its
+    /// first entries; the order within parts 1 and 2 is free.
     fn from_images(t: u32, r: u32, group: Group, images: Vec<Element>) -> Code {
         let digits = word::digits(&group, &images);
         Code {

@@ -217,17 +217,20 @@ fn the_order_of_11() {
     assert_eq!(code.third_place(4, 4), Err(refused(6)));
 }
 
-/// Every call does with a word what the whole code does with s zeros and the word.
+/// The calls do with a word what the whole code does with s zeros and the word, and the layout
+/// is the whole code's without its first s places.
 #[test]
 fn as_in_the_whole_code() {
     for whole in codes() {
         let (t, r) = (whole.t(), whole.r());
         let mut draw = Draw::from_state(7 + 100 * t + r);
-        for _ in 0..20 {
-            let s = draw.below(whole.message_length()) as u32;
-            if let Ok(code) = Code::open(t, r, s) {
-                like_the_whole(&code, &whole, &mut draw);
-            }
+        let drawn = (0..20).map(|_| draw.below(whole.message_length()) as u32);
+        let some: Vec<u32> = [0, 1].into_iter().chain(drawn).collect();
+        let opened: Vec<Code> = some.iter().flat_map(|&s| Code::open(t, r, s)).collect();
+        // A message of (2,2) has one place; every other code begins with part 1.
+        assert!(opened.iter().any(|code| code.s() > 0) || t == 2);
+        for code in &opened {
+            like_the_whole(code, &whole, &mut draw);
         }
     }
 }
@@ -238,11 +241,13 @@ fn like_the_whole(code: &Code, whole: &Code, draw: &mut Draw) {
     let first = draw.word(code.length());
     let second = super::encode(code, &draw.word(code.message_length()));
 
+    assert_eq!(super::layout(code), super::layout(whole)[s..]);
     assert_eq!(code.syndrome(&first), whole.syndrome(&filled(&first)));
     assert_eq!(
         whole.read_message(&filled(&second))[s..],
-        second[..code.message_length()]
+        *code.read_message(&second)
     );
+    assert!(!code.read_message(&second).is_empty());
     let both = super::combine(code, &first, &second);
     assert_eq!(
         super::combine(whole, &filled(&first), &filled(&second)),

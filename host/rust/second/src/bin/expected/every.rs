@@ -71,7 +71,7 @@ fn place_of_difference(first: &[u8], second: &[u8]) -> u32 {
 mod tests {
     use super::*;
 
-    /// (3,2) with s = 2: four codewords, each with five words one place away, two of them in
+    /// (3,2) with s = 2: four codewords, each with five words one place away, one of them in
     /// the unit and four in the pairs; the rest of the 32 words are near none.
     #[test]
     fn the_counts_of_a_code() {
