@@ -1,5 +1,5 @@
 -- The sheet of admitted t and r is that of the whole code, s = 0: `sheet-whole`. Assumes nothing.
-use mathlib.Core.Path.{_≡_, refl, _∙_}
+use mathlib.Core.Path.{_≡_, refl, ap, _∙_}
 use Prim.Native.Nat.{ℕ}
 use native.Mathlib.Omega.{arith}
 use Rattle.layout.specs.Parameters.{Admitted, placesOf, messageOf}
@@ -31,4 +31,4 @@ module _ (t r : ℕ) (ok : Admitted t r) where
 
 pub sheet-whole : (t r : ℕ) → Admitted t (inForce t r) → lineText (Read t r) ≡ wholeSheet t (inForce t r)
 unfolding lineText answerText
-sheet-whole t r ok = rw (opens-zero t r ok) (listed t (inForce t r) ok)
+sheet-whole t r ok = ap answerText (opens-zero t r ok) ∙ listed t (inForce t r) ok
