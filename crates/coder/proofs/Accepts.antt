@@ -11,7 +11,7 @@ use Rattle.words.specs.Words.{Word}
 use Rattle.shortened.specs.Code.{corrected}
 use Rattle.coder.specs.State.{Usable, moduliIn, placesIn, messageIn, correctedOldPlaceIn, FallsOut, ThreeIn, fullCount}
 use Rattle.coder.specs.Reasons.{wrongLength, badByte, badPlace}
-use Rattle.coder.specs.Calls.{layoutReasons, elementAt, wordReasons, syndromeAnswer, codewordAnswer, encodeReasons, encodeAnswer, correctAnswer}
+use Rattle.coder.specs.Calls.{layoutReasons, wordReasons, syndromeAnswer, codewordAnswer, encodeReasons, encodeAnswer, correctAnswer}
 use Rattle.coder.specs.Calls.{combineReasons, combineAnswer, invertReasons, invertAnswer, thirdReasons, thirdAnswer}
 use Rattle.coder.specs.Claims.{NoneApplies, ThirdsShortened}
 use Rattle.coder.specs.Demand3Shortened.{HasNear}

@@ -18,9 +18,8 @@ use Rattle.shortened.specs.Code as shortened
 use Rattle.shortened.proofs.Filling.{old-sum}
 use Rattle.coder.specs.State.{fresh, isClosed, isUnfit, isNotAllowed, isUsable, moduliIn, placesIn, messageIn, elementIn}
 use Rattle.coder.specs.Reasons.{Reason, accepted, firstReason, notAdmitted, notAllowed, outside}
-use Rattle.coder.specs.Calls.{ifAccepted, stateReasons, inForce, openReasons, opened, layoutReasons, refusedElement, elementAt, ifUsable}
+use Rattle.coder.specs.Calls.{ifAccepted, stateReasons, inForce, opened, layoutReasons, refusedElement, elementAt, ifUsable}
 use Rattle.coder.specs.declared.Record.{Record}
-use Rattle.coder.specs.declared.Opened.{Opened}
 use Rattle.coder.specs.declared.ElementAnswer.{ElementAnswer}
 use Rattle.coder.proofs.Firsts.{first-yes, first-no, first-end}
 use Rattle.coder.proofs.States.{Clear, state-number, state-past, true-usable}
@@ -29,19 +28,6 @@ abbrev numberOf : Reason → ℕ
 numberOf x = x .number
 
 -- ---- opening
--- by its number
-pub opened-refused : (t r s n : ℕ) → n ≡ firstReason (openReasons t r s) .number → n ≢ 0 → opened t r s ≡ record { refusal = n; «record» = fresh 0 0 0 }
-unfolding opened
-opened-refused t r s n e h = rw (← e) (ap {B = Opened} (λ (x : Record). record { refusal = n; «record» = x }) (go n h))
-  where
-    go : (n : ℕ) → n ≢ 0 → ifAccepted n (fresh t (inForce t r) s) (fresh 0 0 0) ≡ fresh 0 0 0
-    go zero h = absurd (h refl)
-    go (suc n) h = refl
-
-pub opened-accepted : (t r s n : ℕ) → n ≡ firstReason (openReasons t r s) .number → n ≡ 0 → opened t r s ≡ record { refusal = n; «record» = fresh t (inForce t r) s }
-unfolding opened
-opened-accepted t r s n e z = rw (← e, z)
-
 pub opened-yes : (t r s : ℕ) → admits t (inForce t r) ≡ true → allows t (inForce t r) s ≡ true
     → opened t r s ≡ record { refusal = 0; «record» = fresh t (inForce t r) s }
 unfolding opened

@@ -11,13 +11,12 @@ use Rattle.layout.specs.Parameters.{placesOf, messageOf, moduliFor}
 use Rattle.layout.specs.Layout as layout
 use Rattle.words.specs.Words.{Word, zeroWord, flip}
 use Rattle.words.specs.Syndrome.{lengthOf}
-use Rattle.words.specs.Claims.{messageLengthOf}
 use Rattle.words.proofs.Reading.{reads-word}
 use Rattle.words.proofs.Perfect.{flip-place-reads}
 use Rattle.words.proofs.Thirds.{zero-word}
 use Rattle.words.proofs.Theorem.{length-code, length-message-code}
 use Rattle.shortened.specs.Allowed.{Allowed}
-use Rattle.shortened.specs.Code.{fill, oldPlace, Codeword, encode, combine, inverse}
+use Rattle.shortened.specs.Code.{fill, oldPlace}
 use Rattle.shortened.specs.Code as shortened
 use Rattle.shortened.specs.Claims.{ShortenedOf}
 use Rattle.shortened.proofs.Filling.{old-sum, word-fill, fill-word, fill-zero, flip-fill}

@@ -33,10 +33,16 @@ abbrev pub openReasons : ℕ → ℕ → ℕ → List Reason
 openReasons t r s = notAdmitted t (inForce t r) ∷ notAllowed t (inForce t r) s ∷ []
 
 -- "A refused opening gives the closed record with every field 0."
+abbrev pub closedRecord : Record
+closedRecord = fresh 0 0 0
+
+abbrev pub refusedOpening : ℕ → Opened
+refusedOpening n = record { refusal = n; «record» = closedRecord }
+
 unfoldable pub opened : ℕ → ℕ → ℕ → Opened
 opened t r s =
     let n = firstReason (openReasons t r s) .number in
-    record { refusal = n; «record» = ifAccepted n (fresh t (inForce t r) s) (fresh 0 0 0) }
+    record { refusal = n; «record» = ifAccepted n (fresh t (inForce t r) s) closedRecord }
 
 -- ---- the layout: "the layout tells the element number of one place a call"
 abbrev pub layoutReasons : Record → ℕ → List Reason

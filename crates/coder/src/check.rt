@@ -6,7 +6,7 @@ ghost use mathlib.Core.List.{_∷_, [], _++_};
 ghost use Prim.Native.Nat.{_<_, _≤_};
 ghost use lib.Dec.{eqb, ltb};
 ghost use lib.ListN.{length};
-ghost use Rattle.coder.specs.Reasons.{firstReason, notAdmitted, notAllowed, leftOut, full, wrongLength, shortOutput, badByte, badPlace};
+ghost use Rattle.coder.specs.Reasons.{firstReason, leftOut, full, wrongLength, shortOutput, badByte, badPlace};
 ghost use Rattle.coder.specs.State.{placesIn};
 ghost use Rattle.coder.specs.Calls.{answerOf, stateReasons, wordReasons, writeReasons, combineReasons, placesReasons};
 use crate::Answer;
@@ -68,19 +68,6 @@ pub(crate) fn written(record: Record, word: &[u8], room: usize) -> Answer
     let size = fit::lengths(record);
     let n = size.places;
     output(record, n, word, n, room)
-}
-
-// 1 and 10 of an opening with the r in force.
-pub(crate) fn opening(t: u32, r: u32, s: u32) -> u32
-    ensures { λ x. ⌜ x ≡ firstReason (notAdmitted t r ∷ notAllowed t r s ∷ []) .number ⌝ }
-{
-    if layout::admitted(t, r) {
-        if shortened::allowed(t, r, s) {
-            return 0;
-        }
-        return 10;
-    }
-    1
 }
 
 // 11 and 23 of a correction at place q, by its number before renumbering.

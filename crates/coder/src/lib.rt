@@ -11,7 +11,7 @@ mod fit;
 ghost use mathlib.Core.Path.{_≡_};
 ghost use denote.Ref.{ptr};
 ghost use Rattle.coder.specs.State.{fresh};
-ghost use Rattle.coder.specs.Calls.{inForce, refusedElement, opened, elementAt, wordLength, messageLength, syndromeAnswer, codewordAnswer, shown};
+ghost use Rattle.coder.specs.Calls.{inForce, refusedOpening, refusedElement, opened, elementAt, wordLength, messageLength, syndromeAnswer, codewordAnswer, shown};
 ghost use Rattle.coder.specs.Calls.{encodeAnswer, encodeOutput, correctAnswer, correctOutput, combineAnswer, combineOutput, invertAnswer, invertOutput, thirdAnswer};
 ghost use Rattle.shortened.specs.Code.{newPlace};
 ghost use Rattle.shortened.specs.Calls.{faultFor};
@@ -66,17 +66,16 @@ pub fn open(t: u32, r: u32, s: u32) -> Opened
     ensures { λ x. ⌜ x ≡ opened t r s ⌝ }
 {
     let used = in_force(t, r);
-    let refusal = check::opening(t, used, s);
-    if refusal != 0 {
-        return Opened {
-            refusal,
-            record: new_record(0, 0, 0),
-        };
+    if layout::admitted(t, used) {
+        if shortened::allowed(t, used, s) {
+            return Opened {
+                refusal: 0,
+                record: new_record(t, used, s),
+            };
+        }
+        return refused_opening(10);
     }
-    Opened {
-        refusal,
-        record: new_record(t, used, s),
-    }
+    refused_opening(1)
 }
 
 // The number of the element of a place. Refused with 21, 22, 10 and 5.
@@ -342,6 +341,15 @@ fn new_record(t: u32, r: u32, s: u32) -> Record
         clean: 0,
         corrected_binary: 0,
         corrected_pairs: 0,
+    }
+}
+
+fn refused_opening(number: u32) -> Opened
+    ensures { λ x. ⌜ x ≡ refusedOpening number ⌝ }
+{
+    Opened {
+        refusal: number,
+        record: new_record(0, 0, 0),
     }
 }
 
