@@ -1,6 +1,6 @@
--- What request C-17 says of demand 3: "for any other allowed s, the same in each record, a word has at most one codeword within one place, which
--- correction gives on the same terms where there is one". The theorem is `demand3-shortened : Demand3Shortened` (proofs/Demand3Shortened), for every allowed s, 0
--- among them. Assumes nothing.
+-- What request C-17 says of demand 3: "for any other allowed s, the same in each record, a word has at most one codeword within one place,
+-- which correction gives on the same terms where there is one". The theorem is `demand3-shortened : Demand3Shortened`
+-- (proofs/Demand3Shortened), for every allowed s, 0 among them. Assumes nothing.
 use mathlib.Core.Path.{_≡_}
 use mathlib.Core.Logic.{_≢_, _↔_}
 use mathlib.Core.Bool.{true, false}
@@ -56,6 +56,7 @@ pub record AtShortenedWord (t r s : ℕ) (w : List ℕ) : Type 0 where
   pub none : (o : Own t r s) → (correctAnswer (o .given) w (o .output) .refusal ≡ 11) ↔ (HasNear t r s w → ⊥)
   pub untouched : (o : Own t r s) → (HasNear t r s w → ⊥)
       → (correctAnswer (o .given) w (o .output) ≡ record { refusal = 11; place = 0; «record» = o .given }) × (correctOutput (o .given) w (o .output) ≡ o .output)
+  -- so whatever is not refused with 11 has one
   pub met : (o : Own t r s) → correctAnswer (o .given) w (o .output) .refusal ≢ 11 → HasNear t r s w
   -- "So two different choices of message and flipped place (none included) never give one received word"
   pub choices : (m m′ : List ℕ) → Word (messageOf t - s) m → Word (messageOf t - s) m′ → (i j : ℕ) → i ≤ placesOf t - s → j ≤ placesOf t - s → (o o′ : Own t r s)

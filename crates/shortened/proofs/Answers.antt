@@ -13,7 +13,6 @@ use Rattle.layout.specs.Parameters.{placesOf, messageOf, binaryOf, quaternaryOf
 use Rattle.layout.specs.Layout.{slots}
 use Rattle.layout.proofs.Parameters.{admitted-admits, zeros-for}
 use Rattle.words.specs.Words as words
-use Rattle.words.specs.Coding as coding
 use Rattle.words.specs.Calls as calls
 use Rattle.shortened.specs.Code.{fill, syndrome, encode, combine, inverse}
 use Rattle.shortened.specs.Calls.{allowedFor, fitsWord, fitsMessage, syndromeFor, faultFor, encodeFor, combineFor, invertFor}
@@ -68,6 +67,13 @@ module _ (fits : Bool) (n : ℕ) (new old : List ℕ) where
   wide : fits ≡ true → leb n (length old) ≡ true → new ++ drop n old ≡ calls.written (fits && leb n (length old)) n new old
   wide y e = rw (y, e)
 
+-- with s = 0 it is what is written with none left out
+wide-zero : (fits : Bool) (n s : ℕ) (new : ℕ → List ℕ) (old : List ℕ) → fits ≡ true → leb (n - s) (length old) ≡ true → s ≡ 0
+    → new 0 ++ drop n old ≡ calls.written (fits && leb (n - s) (length old)) (n - s) (new s) old
+wide-zero fits n s new old y e z =
+    ap (λ (k : ℕ). new 0 ++ drop k old) (sym (less-none n))
+    ∙ ap (λ (k : ℕ). new k ++ drop (n - k) old) (sym z) ∙ wide fits (n - s) (new s) old y e
+
 module _ (t r s : ℕ) (m old : List ℕ) where
   pub encode-none : fitsMessage t r s (length m) ≡ false → old ≡ encodeFor t r s m old
   unfolding encodeFor
@@ -84,14 +90,13 @@ module _ (t r s : ℕ) (m old : List ℕ) where
       encode-else = wide (fitsMessage t r s (length m)) (placesOf t - s) (encode (moduliFor t r) s m) old y e
 
       pub encode-whole : s ≡ 0 → calls.encodeFor t r m old ≡ encodeFor t r s m old
-      unfolding calls.encodeFor encode
+      unfolding calls.encodeFor encodeFor encode
       encode-whole z =
           let f = message-fits t r s (length m) y in
           let a = f .all in
           let g = leb-true (placesOf t - s) (length old) e in
           rw (admitted-admits t r (f .admitted), eq-eqb (length m) (messageOf t) (omega arith), le-leb (placesOf t) (length old) (omega arith))
-          (ap (λ (k : ℕ). coding.encode (moduliFor t r) m ++ drop k old) (sym (less-none (placesOf t)))
-          ∙ ap (λ (k : ℕ). encode (moduliFor t r) k m ++ drop (placesOf t - k) old) (sym z) ∙ encode-else)
+          (wide-zero (fitsMessage t r s (length m)) (placesOf t) s (λ (k : ℕ). encode (moduliFor t r) k m) old y e z)
 
 module _ (t r s : ℕ) (w old : List ℕ) where
   pub invert-none : fitsWord t r s (length w) ≡ false → old ≡ invertFor t r s w old
@@ -109,14 +114,13 @@ module _ (t r s : ℕ) (w old : List ℕ) where
       invert-else = wide (fitsWord t r s (length w)) (placesOf t - s) (inverse (moduliFor t r) s w) old y e
 
       pub invert-whole : s ≡ 0 → calls.invertFor t r w old ≡ invertFor t r s w old
-      unfolding calls.invertFor inverse
+      unfolding calls.invertFor invertFor inverse
       invert-whole z =
           let f = word-fits t r s (length w) y in
           let a = f .all in
           let g = leb-true (placesOf t - s) (length old) e in
           rw (admitted-admits t r (f .admitted), le-leb (placesOf t) (length w) (omega arith), le-leb (placesOf t) (length old) (omega arith))
-          (ap (λ (k : ℕ). words.inverse (slots (moduliFor t r)) w ++ drop k old) (sym (less-none (placesOf t)))
-          ∙ ap (λ (k : ℕ). inverse (moduliFor t r) k w ++ drop (placesOf t - k) old) (sym z) ∙ invert-else)
+          (wide-zero (fitsWord t r s (length w)) (placesOf t) s (λ (k : ℕ). inverse (moduliFor t r) k w) old y e z)
 
 module _ (t r s : ℕ) (x w old : List ℕ) where
   pub combine-none : fitsWord t r s (length x) ≡ false → old ≡ combineFor t r s x w old
