@@ -2,14 +2,14 @@
 ghost use mathlib.Core.Path.{_≡_};
 ghost use mathlib.Core.Logic.{_≢_};
 ghost use Prim.Native.Nat.{_+_, _<_};
-ghost use Rattle.layout.specs.Gate.{hit};
-ghost use Rattle.coder.specs.State as state;
+ghost use Rattle.layout_theory.specs.Choice.{oneIf};
+ghost use Rattle.coder_theory.specs.State as state;
 use crate::Record;
 
 // One more where it is to be counted.
 fn add(count: u32, yes: bool) -> u32
     requires { ⌜ count < state.fullCount ⌝ }
-    ensures { λ x. ⌜ x ≡ count + hit yes ⌝ }
+    ensures { λ x. ⌜ x ≡ count + oneIf yes ⌝ }
 {
     if yes { count + 1 } else { count }
 }

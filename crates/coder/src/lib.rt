@@ -4,61 +4,23 @@
 // an output or a place in check.rt; count.rt counts; the work on plain words of the shortened code is done
 // by crate shortened, a correction's flip by crate words. Demand 3, on encode, correct and combine, is
 // proofs/Demand3.antt, and its sister for shortened codes proofs/Demand3Shortened.antt.
-mod check;
 mod count;
-mod fit;
 
 ghost use mathlib.Core.Path.{_≡_};
 ghost use denote.Ref.{ptr};
-ghost use Rattle.coder.specs.State.{fresh};
-ghost use Rattle.coder.specs.Calls.{inForce, refusedOpening, refusedElement, opened, elementAt, wordLength, messageLength, syndromeAnswer, codewordAnswer, shown};
-ghost use Rattle.coder.specs.Calls.{encodeAnswer, encodeOutput, correctAnswer, correctOutput, combineAnswer, combineOutput, invertAnswer, invertOutput, thirdAnswer};
-ghost use Rattle.shortened.specs.Code.{newPlace};
-ghost use Rattle.shortened.specs.Calls.{faultFor};
-
-// Which code it is, of which s places are left out, how many corrections were accepted, and what they
-// came to. The last two counts are what document 01 calls "mended binary" and "mended in pairs".
-pub struct Record {
-    pub t: u32,
-    pub r: u32,
-    pub s: u32,
-    pub words: u32,
-    pub clean: u32,
-    pub corrected_binary: u32,
-    pub corrected_pairs: u32,
-}
-
-pub struct Opened {
-    pub refusal: u32,
-    pub record: Record,
-}
-
-// `place` is 0 but with refusal 4, whose byte stands there, and where the answer is a place.
-pub struct Answer {
-    pub refusal: u32,
-    pub place: u32,
-}
-
-// The number of an element.
-pub struct ElementAnswer {
-    pub refusal: u32,
-    pub place: u32,
-    pub element: u32,
-}
-
-// Yes or no.
-pub struct TestAnswer {
-    pub refusal: u32,
-    pub place: u32,
-    pub yes: bool,
-}
-
-// What correction answers: the place that it changed, 0 for none, and the record with its counts.
-pub struct Corrected {
-    pub refusal: u32,
-    pub place: u32,
-    pub record: Record,
-}
+ghost use Rattle.shortened_theory.specs.Code.{newPlace};
+ghost use Rattle.shortened_theory.specs.Calls.{shortenedFaultFor};
+ghost use Rattle.coder_theory.specs.State.{fresh};
+ghost use Rattle.coder_theory.specs.Calls.{inForce, refusedOpening, refusedElement, opened, elementAnswer, wordLength, messageLength, syndromeAnswer, codewordAnswer, shown};
+ghost use Rattle.coder_theory.specs.Calls.{encodeAnswer, encodeOutput, correctAnswer, correctOutput, combineAnswer, combineOutput, invertAnswer, invertOutput, thirdAnswer};
+use checks::check;
+use checks::fit;
+pub use coder_theory::Answer;
+pub use coder_theory::Corrected;
+pub use coder_theory::ElementAnswer;
+pub use coder_theory::Opened;
+pub use coder_theory::Record;
+pub use coder_theory::TestAnswer;
 
 // A record for the code with t and r, shortened by s; r = 0 means r = t. Refused with 1 where t and r
 // are not admitted, and with 10 where s is not allowed.
@@ -80,7 +42,7 @@ pub fn open(t: u32, r: u32, s: u32) -> Opened
 
 // The number of the element of a place. Refused with 21, 22, 10 and 5.
 pub fn element_at(record: Record, place: u32) -> ElementAnswer
-    ensures { λ x. ⌜ x ≡ elementAt «record» place ⌝ }
+    ensures { λ x. ⌜ x ≡ elementAnswer «record» place ⌝ }
 {
     let x = fit::state(record);
     if x != 0 {
@@ -236,7 +198,7 @@ pub fn correct(record: Record, word: &[u8], out: &mut [u8]) -> Corrected
         };
     }
     let p = new_place(record, q);
-    words::flip(word, p, out);
+    coding::flip(word, p, out);
     Corrected {
         refusal: x,
         place: p,
@@ -246,7 +208,7 @@ pub fn correct(record: Record, word: &[u8], out: &mut [u8]) -> Corrected
 
 // The place at fault in a word of the record's code, by its number before renumbering.
 fn fault(record: Record, word: &[u8]) -> u32
-    ensures { λ x. ⌜ x ≡ faultFor («record» .t) («record» .r) («record» .s) (now (word .entry)) ⌝ }
+    ensures { λ x. ⌜ x ≡ shortenedFaultFor («record» .t) («record» .r) («record» .s) (now (word .entry)) ⌝ }
 {
     let t = record.t;
     let r = record.r;

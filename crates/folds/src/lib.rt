@@ -8,12 +8,12 @@ ghost use mathlib.Core.List.{_++_};
 ghost use Prim.Native.Nat.{_+_, _*_, _%_, _^_, _<_, _≤_};
 ghost use lib.ListN.{length, take, drop};
 ghost use lib.Seq.{paste};
-ghost use Rattle.group.specs.Group.{moduli, size};
-ghost use Rattle.group.specs.Weights as weights;
-ghost use Rattle.layout.specs.Blocks.{plus, level, evenTo};
-ghost use Rattle.folds.specs.Folds as folds;
-ghost use Rattle.folds.specs.Folds.{stretch, firstPlus, firstTops, nextPlus, plusTops, nextLow, lowTops, stride, Halved};
-ghost use Rattle.folds.specs.Folds.{room, widest, twice, weightOrder, weightedFor};
+ghost use Rattle.group_theory.specs.Group.{moduli, size};
+ghost use Rattle.group_theory.specs.Weights as weights;
+ghost use Rattle.blocks_theory.specs.Blocks.{plus, level, evenTo};
+ghost use Rattle.folds_theory.specs.Folds as folds;
+ghost use Rattle.folds_theory.specs.Folds.{stretch, firstPlus, firstTops, nextPlus, plusTops, nextLow, lowTops, stride, Halved};
+ghost use Rattle.folds_theory.specs.Folds.{room, widest, twice, weightOrder, weightedFor};
 use group::Element;
 use std::num;
 

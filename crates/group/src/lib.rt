@@ -5,8 +5,8 @@
 ghost use mathlib.Core.Path.{_≡_};
 ghost use Prim.Native.Nat.{_<_};
 ghost use lib.ListN.{getD};
-ghost use Rattle.group.specs.Group.{one, radix, moduli, zeros, sum, negative, times, number};
-ghost use Rattle.group.specs.Sign.{allZero, firstOf};
+ghost use Rattle.group_theory.specs.Group.{one, radix, moduli, zeros, sum, negative, times, number};
+ghost use Rattle.group_theory.specs.Sign.{allZero, firstOf};
 
 // "An element is held as its list of components."
 pub type Element = [u8; 12];

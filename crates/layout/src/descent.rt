@@ -10,11 +10,11 @@ ghost use mathlib.Core.List.{_++_};
 ghost use mathlib.Core.Bool.{false};
 ghost use Prim.Native.Nat.{_+_, _*_, _-_, _/_, _≤_, _<_, _^_};
 ghost use lib.ListN.{length, getD, drop};
-ghost use Rattle.group.specs.Group.{Valid, moduli, times, number, element};
-ghost use Rattle.group.specs.Sign.{lead, oddOr};
-ghost use Rattle.layout.specs.Gate.{gate};
-ghost use Rattle.layout.specs.Blocks.{level};
-ghost use Rattle.layout.specs.Parts.{pick, numbers, standing, firstWidth, lowWidth, offset, lowAfter, InBlock, Signed, Based};
+ghost use Rattle.group_theory.specs.Group.{Valid, moduli, times, number, element};
+ghost use Rattle.group_theory.specs.Sign.{lead, oddOr};
+ghost use Rattle.layout_theory.specs.Choice.{zeroUnless, pick};
+ghost use Rattle.blocks_theory.specs.Blocks.{level};
+ghost use Rattle.blocks_theory.specs.Indices.{numbers, standing, firstWidth, lowWidth, offset, lowAfter, InBlock, Signed, Based};
 use crate::narrow;
 use crate::power;
 use group::Element;
@@ -39,13 +39,13 @@ fn choose(test: bool, x: u32, y: u32) -> u32
 }
 
 fn when(test: bool, n: u32) -> u32
-    ensures { λ r. ⌜ (r ≡ gate test n) × (r ≤ n) ⌝ }
+    ensures { λ r. ⌜ (r ≡ zeroUnless test n) × (r ≤ n) ⌝ }
 {
     if test { n } else { 0 }
 }
 
 fn one(test: bool) -> u8
-    ensures { λ r. ⌜ (r ≡ gate test 1) × (r ≤ 1) ⌝ }
+    ensures { λ r. ⌜ (r ≡ zeroUnless test 1) × (r ≤ 1) ⌝ }
 {
     if test { 1 } else { 0 }
 }

@@ -10,30 +10,19 @@ ghost use mathlib.Core.Path.{_≡_};
 ghost use mathlib.Core.Bool.{true};
 ghost use Prim.Native.Nat.{_+_, _*_, _-_, _%_, _≤_, _<_, _^_};
 ghost use lib.ListN.{length, getD, set};
-ghost use Rattle.group.specs.Group.{Valid, moduli, zeros, size};
-ghost use Rattle.group.specs.Sign.{lead};
-ghost use Rattle.layout.specs.Parameters.{admits};
-ghost use Rattle.layout.specs.Layout.{singles, pairs, units, places, elementAt, placeOf};
-ghost use Rattle.layout.specs.Calls.{shapeFor, elementFor, placeFor};
-ghost use Rattle.layout.specs.Blocks.{plus};
-ghost use Rattle.layout.specs.Parts.{Located, Signed, standing, Tells, AllBelow};
+ghost use Rattle.group_theory.specs.Group.{Valid, moduli, zeros, size};
+ghost use Rattle.group_theory.specs.Sign.{lead};
+ghost use Rattle.layout_theory.specs.Parameters.{admits};
+ghost use Rattle.layout_theory.specs.Layout.{singles, pairs, units, places, elementAt, placeOf};
+ghost use Rattle.layout_theory.specs.Calls.{shapeFor, elementFor, placeFor};
+ghost use Rattle.layout_theory.specs.Parts.{Located};
+ghost use Rattle.blocks_theory.specs.Blocks.{plus};
+ghost use Rattle.blocks_theory.specs.Indices.{Signed, standing, Tells, AllBelow};
 use group::Element;
+pub use layout_theory::Shape;
 
 // The largest t in use.
 const LONGEST: u32 = 10;
-
-// The numbers of document 01's "Parameters"; every field is 0 where t and r are not admitted.
-pub struct Shape {
-    // a and b: the components modulo 2 and those modulo 4
-    pub a: usize,
-    pub b: usize,
-    // n: the places of a word
-    pub places: u32,
-    // k: the binary places
-    pub binary: u32,
-    // the places of a message
-    pub message: u32,
-}
 
 // Whether t and r are admitted.
 pub fn admitted(t: u32, r: u32) -> bool

@@ -4,10 +4,10 @@
 ghost use mathlib.Core.Path.{_≡_};
 ghost use Prim.Native.Nat.{_+_, _-_, _≤_, _<_, _^_};
 ghost use lib.ListN.{length};
-ghost use Rattle.group.specs.Group.{moduli};
-ghost use Rattle.layout.specs.Layout.{pairs};
-ghost use Rattle.layout.specs.Blocks.{plus};
-ghost use Rattle.layout.specs.Parts.{PastTwos, PastFours, BeforeTwos, BeforeFours};
+ghost use Rattle.group_theory.specs.Group.{moduli};
+ghost use Rattle.layout_theory.specs.Layout.{pairs};
+ghost use Rattle.blocks_theory.specs.Blocks.{plus};
+ghost use Rattle.blocks_theory.specs.Indices.{PastTwos, PastFours, BeforeTwos, BeforeFours};
 use crate::narrow;
 use crate::power;
 

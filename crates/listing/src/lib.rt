@@ -7,13 +7,8 @@ mod write;
 
 ghost use mathlib.Core.Path.{_≡_};
 ghost use lib.ListN.{length};
-ghost use Rattle.listing.specs.Sheet.{sheetText, overwrite};
-
-// What an input line says.
-enum Line {
-    Read { t: u32, r: u32 },
-    Malformed,
-}
+ghost use Rattle.listing_theory.specs.Sheet.{sheetText, overwrite};
+use listing_theory::Line;
 
 // The whole output for an input, over the front of `out`.
 pub fn sheet(input: &[u8], out: &mut [u8]) -> usize

@@ -3,9 +3,9 @@
 ghost use mathlib.Core.Path.{_≡_};
 ghost use Prim.Native.Nat.{_≤_, _-_};
 ghost use lib.ListN.{length, take};
-ghost use Rattle.listing.specs.Decimal.{isDigit, value};
-ghost use Rattle.listing.specs.Form.{leading, few, isEnd, readSecond, readRest, readLine};
-use crate::Line;
+ghost use Rattle.listing_theory.specs.Decimal.{isDigit, value};
+ghost use Rattle.listing_theory.specs.Form.{leadingDigits, oneToFour, isEnd, readSecond, readRest, readLine};
+use listing_theory::Line;
 
 fn is_digit(b: u8) -> bool
     ensures { λ x. ⌜ x ≡ isDigit b ⌝ }
@@ -15,7 +15,7 @@ fn is_digit(b: u8) -> bool
 
 // How many digits the text begins with.
 fn digits(s: &[u8]) -> usize
-    ensures { λ n. ⌜ n ≡ length (leading (now (s .entry))) ⌝ }
+    ensures { λ n. ⌜ n ≡ length (leadingDigits (now (s .entry))) ⌝ }
 {
     let mut i: usize = 0;
     while i < s.len() {
@@ -50,7 +50,7 @@ fn value_of(s: &[u8], n: usize) -> u32
 
 // Whether a number may have so many digits.
 fn is_few(n: usize) -> bool
-    ensures { λ x. ⌜ x ≡ few n ⌝ }
+    ensures { λ x. ⌜ x ≡ oneToFour n ⌝ }
 {
     if n < 1 { false } else { n <= 4 }
 }

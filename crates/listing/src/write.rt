@@ -4,9 +4,9 @@
 ghost use Prim.Native.Nat.{_+_, _^_, _<_};
 ghost use mathlib.Core.List.{_∷_, []};
 ghost use lib.ListN.{length};
-ghost use Rattle.listing.specs.Decimal.{decimal};
-ghost use Rattle.listing.specs.Sheet.{fieldText, refusedLine, headingText, placeLine, placeLines, listingText, answerText};
-ghost use Rattle.listing.specs.Puts.{Puts};
+ghost use Rattle.listing_theory.specs.Decimal.{decimal};
+ghost use Rattle.listing_theory.specs.Puts.{Puts};
+ghost use Rattle.listing_theory.specs.Sheet.{fieldText, refusedLine, headingText, placeLine, placeLines, listingText, answerText};
 
 // One byte.
 fn byte(out: &mut [u8], at: usize, b: u8) -> usize

@@ -8,10 +8,10 @@ ghost use mathlib.Core.Path.{_≡_};
 ghost use mathlib.Core.Bool.{true, _&&_};
 ghost use Prim.Native.Nat.{_-_};
 ghost use lib.Dec.{leb, ltb};
-ghost use Rattle.layout.specs.Parameters.{placesOf};
-ghost use Rattle.shortened.specs.Allowed.{endsWhole};
-ghost use Rattle.shortened.specs.Code.{isLeftOut};
-ghost use Rattle.shortened.specs.Calls.{allowedFor, fitsWord, fitsMessage, syndromeFor, faultFor, encodeFor, combineFor, invertFor, widthFor, thirdFor};
+ghost use Rattle.layout_theory.specs.Parameters.{placesOf};
+ghost use Rattle.shortened_theory.specs.Allowed.{endsWhole};
+ghost use Rattle.shortened_theory.specs.Code.{isLeftOut};
+ghost use Rattle.shortened_theory.specs.Calls.{allowedFor, fitsWord, fitsMessage, shortenedSyndromeFor, shortenedFaultFor, shortenedEncodeFor, shortenedCombineFor, shortenedInvertFor, shortenedWidthFor, shortenedThirdFor};
 use group::Element;
 
 // Whether t and r are admitted and s is allowed with them.
@@ -79,11 +79,11 @@ fn has_room(t: u32, r: u32, s: u32, room: usize) -> bool
 
 // The syndrome of a word; zero where it is none of the code.
 pub fn syndrome(t: u32, r: u32, s: u32, word: &[u8]) -> Element
-    ensures { λ x. ⌜ x ≡ syndromeFor t r s (now (word .entry)) ⌝ }
+    ensures { λ x. ⌜ x ≡ shortenedSyndromeFor t r s (now (word .entry)) ⌝ }
 {
     if fits_word(t, r, s, word.len()) {
         if s == 0 {
-            return words::syndrome(t, r, word);
+            return coding::syndrome(t, r, word);
         }
         return fill::syndrome(t, r, s, word);
     }
@@ -93,11 +93,11 @@ pub fn syndrome(t: u32, r: u32, s: u32, word: &[u8]) -> Element
 // The place at fault in the filled word, by the number that it had before renumbering; 0 for a
 // codeword, and where the word is none of the code.
 pub fn fault(t: u32, r: u32, s: u32, word: &[u8]) -> u32
-    ensures { λ x. ⌜ x ≡ faultFor t r s (now (word .entry)) ⌝ }
+    ensures { λ x. ⌜ x ≡ shortenedFaultFor t r s (now (word .entry)) ⌝ }
 {
     if fits_word(t, r, s, word.len()) {
         if s == 0 {
-            return words::fault(t, r, word);
+            return places::fault(t, r, word);
         }
         return fill::fault(t, r, s, word);
     }
@@ -106,12 +106,12 @@ pub fn fault(t: u32, r: u32, s: u32, word: &[u8]) -> u32
 
 // Encodes a message into the front of an output.
 pub fn encode(t: u32, r: u32, s: u32, message: &[u8], out: &mut [u8])
-    ensures { λ x. ⌜ now (out .exit) ≡ encodeFor t r s (now (message .entry)) (now (out .entry)) ⌝ }
+    ensures { λ x. ⌜ now (out .exit) ≡ shortenedEncodeFor t r s (now (message .entry)) (now (out .entry)) ⌝ }
 {
     if fits_message(t, r, s, message.len()) {
         if has_room(t, r, s, out.len()) {
             if s == 0 {
-                words::encode(t, r, message, out);
+                coding::encode(t, r, message, out);
                 return;
             }
             fill::encode(t, r, s, message, out);
@@ -122,13 +122,13 @@ pub fn encode(t: u32, r: u32, s: u32, message: &[u8], out: &mut [u8])
 
 // Two words combined, at the front of an output.
 pub fn combine(t: u32, r: u32, s: u32, first: &[u8], second: &[u8], out: &mut [u8])
-    ensures { λ x. ⌜ now (out .exit) ≡ combineFor t r s (now (first .entry)) (now (second .entry)) (now (out .entry)) ⌝ }
+    ensures { λ x. ⌜ now (out .exit) ≡ shortenedCombineFor t r s (now (first .entry)) (now (second .entry)) (now (out .entry)) ⌝ }
 {
     if fits_word(t, r, s, first.len()) {
         if fits_word(t, r, s, second.len()) {
             if has_room(t, r, s, out.len()) {
                 if s == 0 {
-                    words::combine(t, r, first, second, out);
+                    combining::combine(t, r, first, second, out);
                     return;
                 }
                 fill::combine(t, r, s, first, second, out);
@@ -140,12 +140,12 @@ pub fn combine(t: u32, r: u32, s: u32, first: &[u8], second: &[u8], out: &mut [u
 
 // The inverse of a word, at the front of an output.
 pub fn invert(t: u32, r: u32, s: u32, word: &[u8], out: &mut [u8])
-    ensures { λ x. ⌜ now (out .exit) ≡ invertFor t r s (now (word .entry)) (now (out .entry)) ⌝ }
+    ensures { λ x. ⌜ now (out .exit) ≡ shortenedInvertFor t r s (now (word .entry)) (now (out .entry)) ⌝ }
 {
     if fits_word(t, r, s, word.len()) {
         if has_room(t, r, s, out.len()) {
             if s == 0 {
-                words::invert(t, r, word, out);
+                places::invert(t, r, word, out);
                 return;
             }
             fill::invert(t, r, s, word, out);
@@ -156,7 +156,7 @@ pub fn invert(t: u32, r: u32, s: u32, word: &[u8], out: &mut [u8])
 
 // 1 for a binary place, 2 for a place of a pair; 0 where there is no such place.
 pub fn width(t: u32, r: u32, s: u32, place: u32) -> u32
-    ensures { λ x. ⌜ x ≡ widthFor t r s place ⌝ }
+    ensures { λ x. ⌜ x ≡ shortenedWidthFor t r s place ⌝ }
 {
     if allowed(t, r, s) {
         if place == 0 {
@@ -166,7 +166,7 @@ pub fn width(t: u32, r: u32, s: u32, place: u32) -> u32
         if h.places - s < place {
             return 0;
         }
-        return words::width(t, r, place + s);
+        return places::width(t, r, place + s);
     }
     0
 }
@@ -174,14 +174,14 @@ pub fn width(t: u32, r: u32, s: u32, place: u32) -> u32
 // The third place of two places, by the number that it had before renumbering; 0 where they are not
 // two places.
 pub fn third(t: u32, r: u32, s: u32, i: u32, j: u32) -> u32
-    ensures { λ x. ⌜ x ≡ thirdFor t r s i j ⌝ }
+    ensures { λ x. ⌜ x ≡ shortenedThirdFor t r s i j ⌝ }
 {
     if allowed(t, r, s) {
         let h = layout::shape_of(t, r);
         let n = h.places - s;
         if is_place(n, i) {
             if is_place(n, j) {
-                return words::third(t, r, i + s, j + s);
+                return places::third(t, r, i + s, j + s);
             }
         }
     }

@@ -4,13 +4,13 @@
 // a pointer and a length (include/z2z4.h). The caller keeps an output apart from what is read.
 ghost use mathlib.Core.Path.{_≡_};
 ghost use Prim.Native.Nat.{_<_, _^_};
-ghost use Rattle.z2z4.specs.Calls.{signed, encodeAnswer, encodeOutput, correctAnswer, correctOutput, combineAnswer, combineOutput, thirdAnswer};
+ghost use Rattle.z2z4_theory.specs.Calls.{signed, encodeAnswerForC, encodeOutputForC, correctAnswerForC, correctOutputForC, combineAnswerForC, combineOutputForC, thirdAnswerForC};
 
 // The codeword of a message, at the front of `out`. Answers 0, or −1, −2, −3 or −4.
 #[no_mangle]
 pub extern "C" fn z2z4_encode(t: u32, r: u32, message: &[u8], out: &mut [u8]) -> i32
-    ensures answer { λ x. ⌜ x ≡ encodeAnswer t r (now (message .entry)) (now (out .entry)) ⌝ }
-    ensures bytes { λ x. ⌜ now (out .exit) ≡ encodeOutput t r (now (message .entry)) (now (out .entry)) ⌝ }
+    ensures answer { λ x. ⌜ x ≡ encodeAnswerForC t r (now (message .entry)) (now (out .entry)) ⌝ }
+    ensures bytes { λ x. ⌜ now (out .exit) ≡ encodeOutputForC t r (now (message .entry)) (now (out .entry)) ⌝ }
 {
     let o = coder::open(t, r, 0);
     let x = o.refusal;
@@ -25,8 +25,8 @@ pub extern "C" fn z2z4_encode(t: u32, r: u32, message: &[u8], out: &mut [u8]) ->
 // place, 0 for none, or −1, −2, −3 or −4.
 #[no_mangle]
 pub extern "C" fn z2z4_correct(t: u32, r: u32, word: &[u8], out: &mut [u8]) -> i32
-    ensures answer { λ x. ⌜ x ≡ correctAnswer t r (now (word .entry)) (now (out .entry)) ⌝ }
-    ensures bytes { λ x. ⌜ now (out .exit) ≡ correctOutput t r (now (word .entry)) (now (out .entry)) ⌝ }
+    ensures answer { λ x. ⌜ x ≡ correctAnswerForC t r (now (word .entry)) (now (out .entry)) ⌝ }
+    ensures bytes { λ x. ⌜ now (out .exit) ≡ correctOutputForC t r (now (word .entry)) (now (out .entry)) ⌝ }
 {
     let o = coder::open(t, r, 0);
     let x = o.refusal;
@@ -40,8 +40,8 @@ pub extern "C" fn z2z4_correct(t: u32, r: u32, word: &[u8], out: &mut [u8]) -> i
 // Two words combined by the group law, at the front of `out`. Answers 0, or −1, −2, −3 or −4.
 #[no_mangle]
 pub extern "C" fn z2z4_combine(t: u32, r: u32, first: &[u8], second: &[u8], out: &mut [u8]) -> i32
-    ensures answer { λ x. ⌜ x ≡ combineAnswer t r (now (first .entry)) (now (second .entry)) (now (out .entry)) ⌝ }
-    ensures bytes { λ x. ⌜ now (out .exit) ≡ combineOutput t r (now (first .entry)) (now (second .entry)) (now (out .entry)) ⌝ }
+    ensures answer { λ x. ⌜ x ≡ combineAnswerForC t r (now (first .entry)) (now (second .entry)) (now (out .entry)) ⌝ }
+    ensures bytes { λ x. ⌜ now (out .exit) ≡ combineOutputForC t r (now (first .entry)) (now (second .entry)) (now (out .entry)) ⌝ }
 {
     let o = coder::open(t, r, 0);
     let x = o.refusal;
@@ -55,7 +55,7 @@ pub extern "C" fn z2z4_combine(t: u32, r: u32, first: &[u8], second: &[u8], out:
 // The place that makes a codeword of weight 3 with the places i and j. Answers it, or −1, −5 or −6.
 #[no_mangle]
 pub extern "C" fn z2z4_third_place(t: u32, r: u32, i: u32, j: u32) -> i32
-    ensures { λ x. ⌜ x ≡ thirdAnswer t r i j ⌝ }
+    ensures { λ x. ⌜ x ≡ thirdAnswerForC t r i j ⌝ }
 {
     let o = coder::open(t, r, 0);
     let x = o.refusal;

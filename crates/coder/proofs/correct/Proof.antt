@@ -1,6 +1,6 @@
 -- `coder::correct` meets its contract: what the checks answer, and where they accept, the word with the place at fault flipped. Assumes nothing.
 use borrow.Author.Needs.{needs}
-use Rattle.coder.proofs.Corrections.{correct-ready, correct-refused, correct-stopped, correct-changed}
+use Rattle.coder_theory.proofs.Corrections.{correct-ready, correct-refused, correct-stopped, correct-changed}
 use Rattle.coder.proofs.correct.Statement.{statement}
 use Rattle.coder.proofs.correct.Tie as tie
 

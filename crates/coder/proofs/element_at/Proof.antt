@@ -2,8 +2,8 @@
 use mathlib.Core.Logic.{inl, inr}
 use mathlib.Core.Path.{sym, _∙_}
 use borrow.Author.Needs.{needs}
-use Rattle.coder.proofs.Answers.{element-state, element-outside, element-inside, shape-places, shape-still, shape-element}
-use Rattle.coder.proofs.States.{Clear, state-clear}
+use Rattle.coder_theory.proofs.Answers.{element-state, element-outside, element-inside, shape-places, shape-still, shape-element}
+use Rattle.coder_theory.proofs.States.{Clear, state-clear}
 use Rattle.coder.proofs.element_at.Statement.{statement}
 use Rattle.coder.proofs.element_at.Tie as tie
 

@@ -3,12 +3,12 @@ use mathlib.Core.Bool.{Bool, true, false}
 use mathlib.Core.Path.{_≡_, sym, ap, _∙_}
 use Prim.Native.Nat.{ℕ}
 use borrow.Author.Needs.{needs}
-use Rattle.layout.specs.Parameters.{admits}
-use Rattle.shortened.specs.Allowed.{allows}
-use Rattle.shortened.specs.Calls.{allowedFor}
-use Rattle.coder.specs.Calls.{inForce}
-use Rattle.coder.proofs.States.{allows-by}
-use Rattle.coder.proofs.Answers.{opened-yes, opened-not-allowed, opened-no}
+use Rattle.layout_theory.specs.Parameters.{admits}
+use Rattle.shortened_theory.specs.Allowed.{allows}
+use Rattle.shortened_theory.specs.Calls.{allowedFor}
+use Rattle.coder_theory.specs.Calls.{inForce}
+use Rattle.coder_theory.proofs.States.{allows-by}
+use Rattle.coder_theory.proofs.Answers.{opened-yes, opened-not-allowed, opened-no}
 use Rattle.coder.proofs.open.Statement.{statement}
 use Rattle.coder.proofs.open.Tie as tie
 

@@ -1,7 +1,7 @@
 -- `coder::third_place` meets its contract. Assumes nothing.
 use mathlib.Core.Path.{sym, _∙_}
 use borrow.Author.Needs.{needs}
-use Rattle.coder.proofs.Outcomes.{third-refused, third-stopped, third-accepted}
+use Rattle.coder_theory.proofs.Outcomes.{third-refused, third-stopped, third-accepted}
 use Rattle.coder.proofs.third_place.Statement.{statement}
 use Rattle.coder.proofs.third_place.Tie as tie
 

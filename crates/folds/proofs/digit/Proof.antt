@@ -1,6 +1,6 @@
 -- `folds::digit` meets its contract. Assumes nothing.
 use borrow.Author.Needs.{needs}
-use Rattle.folds.proofs.Halving.{digit-two, digit-four}
+use Rattle.folds_theory.proofs.Halving.{digit-two, digit-four}
 use Rattle.folds.proofs.digit.Statement.{statement}
 use Rattle.folds.proofs.digit.Tie as tie
 use Rattle.folds.proofs.digit.Reads as reads

@@ -1,9 +1,9 @@
 -- `folds::first_plus` meets its contract. Assumes nothing.
 use borrow.Author.Needs.{needs}
 use Prim.Native.Nat.{_-_}
-use Rattle.folds.specs.Folds.{firstPlus, firstTops}
-use Rattle.folds.proofs.Offs.{length-first-plus}
-use Rattle.folds.proofs.Gathers.{Gathering, first-start, first-step, gather-done}
+use Rattle.folds_theory.specs.Folds.{firstPlus, firstTops}
+use Rattle.folds_theory.proofs.Offs.{length-first-plus}
+use Rattle.folds_theory.proofs.Gathers.{Gathering, first-start, first-step, gather-done}
 use Rattle.folds.proofs.first_plus.Statement.{statement}
 use Rattle.folds.proofs.first_plus.Tie as tie
 use Rattle.folds.proofs.first_plus.Reads as reads

@@ -1,9 +1,9 @@
 -- `folds::fold_low` meets its contract. Assumes nothing.
 use borrow.Author.Needs.{needs}
 use Prim.Native.Nat.{_-_}
-use Rattle.folds.specs.Folds.{nextLow, lowTops}
-use Rattle.folds.proofs.Offs.{length-low}
-use Rattle.folds.proofs.Gathers.{Gathering, low-start, low-step, gather-done}
+use Rattle.folds_theory.specs.Folds.{nextLow, lowTops}
+use Rattle.folds_theory.proofs.Offs.{length-low}
+use Rattle.folds_theory.proofs.Gathers.{Gathering, low-start, low-step, gather-done}
 use Rattle.folds.proofs.fold_low.Statement.{statement}
 use Rattle.folds.proofs.fold_low.Tie as tie
 use Rattle.folds.proofs.fold_low.Reads as reads

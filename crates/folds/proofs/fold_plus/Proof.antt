@@ -1,9 +1,9 @@
 -- `folds::fold_plus` meets its contract. Assumes nothing.
 use borrow.Author.Needs.{needs}
 use Prim.Native.Nat.{_-_}
-use Rattle.folds.specs.Folds.{nextPlus, plusTops}
-use Rattle.folds.proofs.Offs.{length-plus}
-use Rattle.folds.proofs.Gathers.{Gathering, plus-start, plus-step, gather-done}
+use Rattle.folds_theory.specs.Folds.{nextPlus, plusTops}
+use Rattle.folds_theory.proofs.Offs.{length-plus}
+use Rattle.folds_theory.proofs.Gathers.{Gathering, plus-start, plus-step, gather-done}
 use Rattle.folds.proofs.fold_plus.Statement.{statement}
 use Rattle.folds.proofs.fold_plus.Tie as tie
 use Rattle.folds.proofs.fold_plus.Reads as reads

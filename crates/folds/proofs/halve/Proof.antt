@@ -1,9 +1,9 @@
 -- `folds::halve` meets its contract. Assumes nothing.
 use borrow.Author.Needs.{needs}
 use Prim.Native.Nat.{_+_, _-_}
-use Rattle.group.specs.Weights.{added}
-use Rattle.folds.specs.Folds.{stretch}
-use Rattle.folds.proofs.Gathers.{Gathering, halve-start, halve-step, halve-length, gather-done}
+use Rattle.group_theory.specs.Weights.{added}
+use Rattle.folds_theory.specs.Folds.{stretch}
+use Rattle.folds_theory.proofs.Gathers.{Gathering, halve-start, halve-step, halve-length, gather-done}
 use Rattle.folds.proofs.halve.Statement.{statement}
 use Rattle.folds.proofs.halve.Tie as tie
 use Rattle.folds.proofs.halve.Reads as reads

@@ -1,6 +1,6 @@
 -- `folds::halves` meets its contract. Assumes nothing.
 use borrow.Author.Needs.{needs}
-use Rattle.folds.proofs.Halving.{Halving, halving-start, halving-step, halving-done}
+use Rattle.folds_theory.proofs.Halving.{Halving, halving-start, halving-step, halving-done}
 use Rattle.folds.proofs.halves.Statement.{statement}
 use Rattle.folds.proofs.halves.Tie as tie
 use Rattle.folds.proofs.halves.Reads as reads

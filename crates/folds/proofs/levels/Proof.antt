@@ -1,6 +1,6 @@
 -- `folds::levels` meets its contract. Assumes nothing.
 use borrow.Author.Needs.{needs}
-use Rattle.folds.proofs.Levelling.{Levelling, levelling-start, round, levelling-step, levelling-asks, levelling-done}
+use Rattle.folds_theory.proofs.Levelling.{Levelling, levelling-start, round, levelling-step, levelling-asks, levelling-done}
 use Rattle.folds.proofs.levels.Statement.{statement}
 use Rattle.folds.proofs.levels.Tie as tie
 use Rattle.folds.proofs.levels.Reads as reads

@@ -1,7 +1,7 @@
 -- `folds::total` meets its contract. Assumes nothing.
 use borrow.Author.Needs.{needs}
 use Prim.Native.Nat.{_-_}
-use Rattle.folds.proofs.Gathers.{Totalling, total-start, total-step, total-done}
+use Rattle.folds_theory.proofs.Gathers.{Totalling, total-start, total-step, total-done}
 use Rattle.folds.proofs.total.Statement.{statement}
 use Rattle.folds.proofs.total.Tie as tie
 use Rattle.folds.proofs.total.Reads as reads

@@ -1,11 +1,12 @@
 -- `layout::admitted` meets its contract: it stops at the first inequality that fails. Assumes nothing.
 use mathlib.Core.Path.{_≡_}
+use mathlib.Core.Bool.{true}
 use Prim.Native.Nat.{ℕ, _-_, _*_, _≤_}
 use native.Mathlib.Omega.{arith}
 use lib.Dec.{leb}
 use borrow.Author.Tests.{leb-true, le-leb, lt-leb}
-use Rattle.group.proofs.Signs.{agree}
-use Rattle.layout.specs.Parameters.{admits}
+use Rattle.group_theory.proofs.Signs.{agree}
+use Rattle.layout_theory.specs.Parameters.{longest, admits}
 use Rattle.layout.proofs.admitted.Statement.{statement}
 use Rattle.layout.proofs.admitted.Tie as tie
 
@@ -15,6 +16,10 @@ twice t r h =
     agree (leb (t - r) r) (leb t (2 * r))
     (λ e. let k = leb-true (t - r) r e in le-leb t (2 * r) (omega arith))
     (λ e. let k = leb-true t (2 * r) e in le-leb (t - r) r (omega arith))
+
+-- past the second test t is in use
+in-use : (c : tie.Else2) → leb (c .before .before .args .t) longest ≡ true
+in-use c = le-leb (c .before .before .args .t) longest (let h = c .if2 .left in omega arith)
 
 returns : tie.Need-returns
 unfolding admits
@@ -26,21 +31,21 @@ returns-2 c = rw (le-leb _ _ (c .before .if1 .left), lt-leb _ _ (c .if2 .taken))
 
 returns-3 : tie.Need-returns-3
 unfolding admits
-returns-3 c = rw (le-leb _ _ (c .before .before .if1 .left), le-leb _ _ (c .before .if2 .left), lt-leb _ _ (c .if3 .taken))
+returns-3 c = rw (le-leb _ _ (c .before .before .if1 .left), in-use (c .before), lt-leb _ _ (c .if3 .taken))
 
 returns-4 : tie.Need-returns-4
 unfolding admits
 returns-4 c =
     let s = c .before .before in
     rw
-    (le-leb _ _ (s .before .if1 .left), le-leb _ _ (s .if2 .left), le-leb _ _ (c .before .if3 .left), lt-leb _ _ (c .if4 .taken))
+    (le-leb _ _ (s .before .if1 .left), in-use s, le-leb _ _ (c .before .if3 .left), lt-leb _ _ (c .if4 .taken))
 
 returns-5 : tie.Need-returns-5
 unfolding admits
 returns-5 c =
     let s = c .before .before in
     rw
-    (le-leb _ _ (s .before .if1 .left), le-leb _ _ (s .if2 .left), le-leb _ _ (c .before .if3 .left), le-leb _ _ (c .if4 .left))
+    (le-leb _ _ (s .before .if1 .left), in-use s, le-leb _ _ (c .before .if3 .left), le-leb _ _ (c .if4 .left))
     (twice _ _ (c .if4 .left))
 
 pub admitted-spec : {M : Type 1} → statement M

@@ -2,8 +2,8 @@
 use borrow.Author.Needs.{needs}
 use Prim.Native.Nat.{ℕ, _-_, _<_, _≤_}
 use native.Mathlib.Omega.{arith}
-use Rattle.layout.specs.Parts.{AllBelow}
-use Rattle.layout.proofs.Locate.{tells-yes, tells-no, below-more}
+use Rattle.blocks_theory.specs.Indices.{AllBelow}
+use Rattle.blocks_theory.proofs.Locate.{tells-yes, tells-no, below-more}
 use Rattle.layout.proofs.all_below.Statement.{statement}
 use Rattle.layout.proofs.all_below.Tie as tie
 

@@ -5,11 +5,11 @@ use mathlib.Core.List.{List}
 use Prim.Native.Nat.{ℕ, suc, _+_, _-_, _*_, _<_, _≤_}
 use native.Mathlib.Omega.{arith}
 use lib.ListN.{length}
-use Rattle.group.specs.Group.{Modulus, moduli}
-use Rattle.layout.specs.Layout.{singles, pairs, elementAt}
-use Rattle.layout.specs.declared.Shape.{Shape}
-use Rattle.layout.proofs.Index.{at-check}
-use Rattle.layout.proofs.Parameters.{known, Known, sizes-known, moduli-known, zeros-for, element-for, element-none, element-beyond}
+use Rattle.group_theory.specs.Group.{Modulus, moduli}
+use Rattle.layout_theory.specs.Layout.{singles, pairs, elementAt}
+use Rattle.layout_theory.specs.declared.Shape.{Shape}
+use Rattle.layout_theory.proofs.Index.{at-check}
+use Rattle.layout_theory.proofs.Parameters.{known, Known, sizes-known, moduli-known, zeros-for, element-for, element-none, element-beyond}
 use Rattle.layout.proofs.element_at.Statement.{statement}
 use Rattle.layout.proofs.element_at.Tie as tie
 

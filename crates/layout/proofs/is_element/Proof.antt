@@ -1,7 +1,7 @@
 -- `layout::is_element` meets its contract: the moduli are 2, then 4, then 1. Assumes nothing.
 use borrow.Author.Needs.{needs}
 use borrow.Author.Tests.{not-true, not-false}
-use Rattle.layout.proofs.Locate.{tells-no, ranges-valid, valid-two, valid-four, valid-one}
+use Rattle.blocks_theory.proofs.Locate.{tells-no, ranges-valid, valid-two, valid-four, valid-one}
 use Rattle.layout.proofs.is_element.Statement.{statement}
 use Rattle.layout.proofs.is_element.Tie as tie
 

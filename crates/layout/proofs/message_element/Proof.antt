@@ -6,11 +6,11 @@ use mathlib.Core.Bool.{true}
 use Prim.Native.Nat.{_+_, _<_}
 use native.Mathlib.Omega.{arith}
 use lib.ListN.{length}
-use Rattle.group.specs.Group.{moduli}
-use Rattle.layout.specs.Layout.{elementAt}
-use Rattle.layout.specs.Blocks.{plus}
-use Rattle.layout.specs.Parts.{standing}
-use Rattle.layout.proofs.Standing.{singles-small, single-element, pair-half}
+use Rattle.group_theory.specs.Group.{moduli}
+use Rattle.layout_theory.specs.Layout.{elementAt}
+use Rattle.blocks_theory.specs.Blocks.{plus}
+use Rattle.blocks_theory.specs.Indices.{standing}
+use Rattle.blocks_theory.proofs.Standing.{singles-small, single-element, pair-half}
 use Rattle.layout.proofs.message_element.Statement.{statement}
 use Rattle.layout.proofs.message_element.Tie as tie
 

@@ -3,9 +3,9 @@ use borrow.Author.Needs.{needs}
 use mathlib.Core.Path.{_≡_}
 use Prim.Native.Nat.{_-_, _/_, _<_, _≤_}
 use native.Mathlib.Omega.{arith}
-use Rattle.group.specs.Group.{moduli, size}
-use Rattle.layout.specs.Layout.{elementAt}
-use Rattle.layout.proofs.Locate.{second-back}
+use Rattle.group_theory.specs.Group.{moduli, size}
+use Rattle.layout_theory.specs.Layout.{elementAt}
+use Rattle.blocks_theory.proofs.Locate.{second-back}
 use Rattle.layout.proofs.pair_place.Statement.{statement}
 use Rattle.layout.proofs.pair_place.Tie as tie
 

@@ -4,11 +4,11 @@ use borrow.Author.Needs.{needs}
 use mathlib.Core.Path.{_≡_, sym, ap, _∙_}
 use mathlib.Core.List.{List}
 use native.Mathlib.Omega.{arith}
-use Rattle.group.specs.Group.{Modulus, moduli}
-use Rattle.layout.specs.Layout.{placeOf}
-use Rattle.layout.specs.Calls.{placeFor}
-use Rattle.layout.proofs.Parameters.{Known, known, sizes-known, moduli-known, place-for, place-nowhere}
-use Rattle.layout.proofs.Places.{place-none}
+use Rattle.group_theory.specs.Group.{Modulus, moduli}
+use Rattle.layout_theory.specs.Layout.{placeOf}
+use Rattle.layout_theory.specs.Calls.{placeFor}
+use Rattle.layout_theory.proofs.Parameters.{Known, known, sizes-known, moduli-known, place-for, place-nowhere}
+use Rattle.layout_theory.proofs.Places.{place-none}
 use Rattle.layout.proofs.place_of.Statement.{statement}
 use Rattle.layout.proofs.place_of.Tie as tie
 

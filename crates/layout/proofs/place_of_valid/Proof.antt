@@ -1,8 +1,8 @@
 -- `layout::place_of_valid` meets its contract: the place found is the only one. Assumes nothing.
 use borrow.Author.Needs.{needs}
 use mathlib.Core.Path.{refl, sym, _∙_}
-use Rattle.group.specs.Group.{moduli}
-use Rattle.layout.proofs.Locate.{place-found, signed-pair}
+use Rattle.group_theory.specs.Group.{moduli}
+use Rattle.blocks_theory.proofs.Locate.{place-found, signed-pair}
 use Rattle.layout.proofs.place_of_valid.Statement.{statement}
 use Rattle.layout.proofs.place_of_valid.Tie as tie
 

@@ -2,8 +2,8 @@
 use borrow.Author.Needs.{needs}
 use Prim.Native.Nat.{_+_, _-_, _*_, _^_, _<_, _≤_}
 use native.Mathlib.Omega.{arith}
-use Rattle.group.specs.Group.{moduli}
-use Rattle.layout.proofs.Locate.{whole-small, Second, pair-unit, pair-other}
+use Rattle.group_theory.specs.Group.{moduli}
+use Rattle.blocks_theory.proofs.Locate.{whole-small, Second, pair-unit, pair-other}
 use Rattle.layout.proofs.second_place.Statement.{statement}
 use Rattle.layout.proofs.second_place.Tie as tie
 

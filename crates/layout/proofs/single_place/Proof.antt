@@ -4,11 +4,11 @@ use mathlib.Core.Path.{_≡_, _∙_}
 use Prim.Native.Nat.{_-_, _<_, _≤_}
 use native.Mathlib.Omega.{arith}
 use lib.ListN.{getD}
-use Rattle.group.specs.Group.{moduli, element, size}
-use Rattle.group.proofs.Laws.{times-one}
-use Rattle.layout.specs.Layout.{elementAt}
-use Rattle.layout.specs.Blocks as blocks
-use Rattle.layout.proofs.Locate.{signed-single, single-none, single-unit, single-other}
+use Rattle.group_theory.specs.Group.{moduli, element, size}
+use Rattle.group_theory.proofs.Laws.{times-one}
+use Rattle.layout_theory.specs.Layout.{elementAt}
+use Rattle.blocks_theory.specs.Blocks as blocks
+use Rattle.blocks_theory.proofs.Locate.{signed-single, single-none, single-unit, single-other}
 use Rattle.layout.proofs.single_place.Statement.{statement}
 use Rattle.layout.proofs.single_place.Tie as tie
 

@@ -2,10 +2,10 @@
 use mathlib.Core.Path.{sym, _∙_}
 use native.Mathlib.Omega.{arith}
 use borrow.Author.Needs.{needs}
-use Rattle.layout.specs.Parameters.{Admitted}
-use Rattle.layout.proofs.Parameters.{admits-admitted}
-use Rattle.shortened.specs.Calls.{allowedFor}
-use Rattle.shortened.proofs.Guards.{shape-known, part-small, shape-allows}
+use Rattle.layout_theory.specs.Parameters.{Admitted}
+use Rattle.layout_theory.proofs.Parameters.{admits-admitted}
+use Rattle.shortened_theory.specs.Calls.{allowedFor}
+use Rattle.shortened_theory.proofs.Guards.{shape-known, part-small, shape-allows}
 use Rattle.shortened.proofs.allowed.Statement.{statement}
 use Rattle.shortened.proofs.allowed.Tie as tie
 

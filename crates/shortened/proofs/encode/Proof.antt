@@ -6,10 +6,10 @@ use lib.ListN.{length}
 use lib.Dec.{leb}
 use borrow.Author.Tests.{leb-true}
 use borrow.Author.Needs.{needs}
-use Rattle.layout.specs.Parameters.{placesOf}
-use Rattle.shortened.specs.Calls.{fitsMessage}
-use Rattle.shortened.proofs.Answers.{encode-whole, encode-else, encode-none, encode-narrow, message-allowed}
-use Rattle.shortened.proofs.Guards.{message-fits}
+use Rattle.layout_theory.specs.Parameters.{placesOf}
+use Rattle.shortened_theory.specs.Calls.{fitsMessage}
+use Rattle.shortened_theory.proofs.Guards.{message-fits}
+use Rattle.loops_theory.proofs.ByFilling.{encode-whole, encode-else, encode-none, encode-narrow, message-allowed}
 use Rattle.shortened.proofs.encode.Statement.{statement}
 use Rattle.shortened.proofs.encode.Tie as tie
 

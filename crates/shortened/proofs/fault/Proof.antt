@@ -3,9 +3,9 @@ use mathlib.Core.Bool.{true}
 use mathlib.Core.Path.{_≡_, sym, _∙_}
 use lib.ListN.{length}
 use borrow.Author.Needs.{needs}
-use Rattle.shortened.specs.Calls.{fitsWord}
-use Rattle.shortened.proofs.Answers.{fault-whole, fault-else, fault-none}
-use Rattle.shortened.proofs.Guards.{word-fits}
+use Rattle.shortened_theory.specs.Calls.{fitsWord}
+use Rattle.shortened_theory.proofs.Guards.{word-fits}
+use Rattle.loops_theory.proofs.ByFilling.{fault-whole, fault-else, fault-none}
 use Rattle.shortened.proofs.fault.Statement.{statement}
 use Rattle.shortened.proofs.fault.Tie as tie
 

@@ -2,8 +2,8 @@
 use mathlib.Core.Bool.{true}
 use mathlib.Core.Path.{_≡_, sym, _∙_}
 use borrow.Author.Needs.{needs}
-use Rattle.shortened.specs.Calls.{allowedFor, fitsMessage}
-use Rattle.shortened.proofs.Guards.{still, message-is}
+use Rattle.shortened_theory.specs.Calls.{allowedFor, fitsMessage}
+use Rattle.shortened_theory.proofs.Guards.{still, message-is}
 use Rattle.shortened.proofs.fits_message.Statement.{statement}
 use Rattle.shortened.proofs.fits_message.Tie as tie
 

@@ -2,8 +2,8 @@
 use mathlib.Core.Bool.{true}
 use mathlib.Core.Path.{_≡_, sym, _∙_}
 use borrow.Author.Needs.{needs}
-use Rattle.shortened.specs.Calls.{allowedFor, fitsWord}
-use Rattle.shortened.proofs.Guards.{still, places-are}
+use Rattle.shortened_theory.specs.Calls.{allowedFor, fitsWord}
+use Rattle.shortened_theory.proofs.Guards.{still, places-are}
 use Rattle.shortened.proofs.fits_word.Statement.{statement}
 use Rattle.shortened.proofs.fits_word.Tie as tie
 

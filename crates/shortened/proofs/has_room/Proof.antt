@@ -1,6 +1,6 @@
 -- `shortened::has_room` meets its contract. Assumes nothing.
 use borrow.Author.Needs.{needs}
-use Rattle.shortened.proofs.Guards.{still, places-are}
+use Rattle.shortened_theory.proofs.Guards.{still, places-are}
 use Rattle.shortened.proofs.has_room.Statement.{statement}
 use Rattle.shortened.proofs.has_room.Tie as tie
 

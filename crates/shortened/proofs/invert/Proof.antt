@@ -6,10 +6,10 @@ use lib.ListN.{length}
 use lib.Dec.{leb}
 use borrow.Author.Tests.{leb-true}
 use borrow.Author.Needs.{needs}
-use Rattle.layout.specs.Parameters.{placesOf}
-use Rattle.shortened.specs.Calls.{fitsWord}
-use Rattle.shortened.proofs.Answers.{invert-whole, invert-else, invert-none, invert-narrow, word-allowed}
-use Rattle.shortened.proofs.Guards.{word-fits}
+use Rattle.layout_theory.specs.Parameters.{placesOf}
+use Rattle.shortened_theory.specs.Calls.{fitsWord}
+use Rattle.shortened_theory.proofs.Guards.{word-fits}
+use Rattle.loops_theory.proofs.ByFilling.{invert-whole, invert-else, invert-none, invert-narrow, word-allowed}
 use Rattle.shortened.proofs.invert.Statement.{statement}
 use Rattle.shortened.proofs.invert.Tie as tie
 

@@ -3,9 +3,9 @@ use mathlib.Core.Bool.{true}
 use mathlib.Core.Path.{_≡_, sym, _∙_}
 use lib.ListN.{length}
 use borrow.Author.Needs.{needs}
-use Rattle.shortened.specs.Calls.{fitsWord}
-use Rattle.shortened.proofs.Answers.{syndrome-whole, syndrome-else, syndrome-none}
-use Rattle.shortened.proofs.Guards.{word-fits}
+use Rattle.shortened_theory.specs.Calls.{fitsWord}
+use Rattle.shortened_theory.proofs.Guards.{word-fits}
+use Rattle.loops_theory.proofs.ByFilling.{syndrome-whole, syndrome-else, syndrome-none}
 use Rattle.shortened.proofs.syndrome.Statement.{statement}
 use Rattle.shortened.proofs.syndrome.Tie as tie
 

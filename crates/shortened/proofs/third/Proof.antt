@@ -4,10 +4,11 @@ use mathlib.Core.Path.{_≡_, sym, ap, _∙_}
 use Prim.Native.Nat.{ℕ, _-_}
 use native.Mathlib.Omega.{arith}
 use borrow.Author.Needs.{needs}
-use Rattle.layout.specs.Parameters.{placesOf}
-use Rattle.shortened.specs.Calls.{allowedFor, isPlace}
-use Rattle.shortened.proofs.Places.{place-by, place-sum, third-none, third-first, third-second, third-old}
-use Rattle.shortened.proofs.Guards.{allowed-both, places-room, still, places-are}
+use Rattle.layout_theory.specs.Parameters.{placesOf}
+use Rattle.shortened_theory.specs.Calls.{allowedFor, isShortenedPlace}
+use Rattle.shortened_theory.proofs.Places.{place-by, place-sum, third-none, third-first, third-second, third-old}
+use Rattle.shortened_theory.proofs.Guards.{allowed-both, still, places-are}
+use Rattle.loops_theory.proofs.Filled.{places-room}
 use Rattle.shortened.proofs.third.Statement.{statement}
 use Rattle.shortened.proofs.third.Tie as tie
 
@@ -35,12 +36,12 @@ is-place-requires-2 : tie.Need-is-place-requires-2
 is-place-requires-2 c κs = search needs
 
 -- past the tests i and j are places
-first : (c : tie.Then2) → let g = c .before .before .before .before .before .before .args in isPlace (g .t) (g .s) (g .i) ≡ true
+first : (c : tie.Then2) → let g = c .before .before .before .before .before .before .args in isShortenedPlace (g .t) (g .s) (g .i) ≡ true
 first c =
     let q = c .before in
     place-by _ _ _ (c .before .before .before .before .before .before .args .i) _ _ (kept (q .before)) (q .is-place .ensures) (c .if2 .taken)
 
-second : (c : tie.Then3) → let g = c .before .before .before .before .before .before .before .before .args in isPlace (g .t) (g .s) (g .j) ≡ true
+second : (c : tie.Then3) → let g = c .before .before .before .before .before .before .before .before .args in isShortenedPlace (g .t) (g .s) (g .j) ≡ true
 second c =
     let q = c .before in
     place-by _ _ _ (c .before .before .before .before .before .before .before .before .args .j) _ _ (kept (q .before .before .before)) (q .is-place2 .ensures) (c .if3 .taken)

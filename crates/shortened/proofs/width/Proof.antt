@@ -3,9 +3,9 @@ use mathlib.Core.Bool.{true}
 use mathlib.Core.Path.{_≡_, sym, _∙_}
 use native.Mathlib.Omega.{arith}
 use borrow.Author.Needs.{needs}
-use Rattle.shortened.specs.Calls.{allowedFor}
-use Rattle.shortened.proofs.Places.{width-none, width-zero, width-old, width-beyond}
-use Rattle.shortened.proofs.Guards.{still, places-are}
+use Rattle.shortened_theory.specs.Calls.{allowedFor}
+use Rattle.shortened_theory.proofs.Places.{width-none, width-zero, width-old, width-beyond}
+use Rattle.shortened_theory.proofs.Guards.{still, places-are}
 use Rattle.shortened.proofs.width.Statement.{statement}
 use Rattle.shortened.proofs.width.Tie as tie
 

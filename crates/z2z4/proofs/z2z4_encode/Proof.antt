@@ -5,10 +5,10 @@ use Prim.Native.Nat.{_<_}
 use native.Mathlib.Omega.{arith}
 use mir.Syntax.{w32}
 use mir.ValLaws.{toZ-ofZ}
-use Rattle.coder.specs.declared.Answer.{Answer}
-use Rattle.coder.proofs.Bounds.{numbers, encode-refusal}
-use Rattle.z2z4.specs.Calls.{signed}
-use Rattle.z2z4.proofs.Opening.{by-refusal, by-record, open-told, encoded}
+use Rattle.coder_theory.specs.declared.Answer.{Answer}
+use Rattle.coder_theory.proofs.Bounds.{numbers, encode-refusal}
+use Rattle.z2z4_theory.specs.Calls.{signed}
+use Rattle.z2z4_theory.proofs.Opening.{by-refusal, by-record, open-told, encodes-as-opened}
 use Rattle.z2z4.proofs.z2z4_encode.Statement.{statement}
 use Rattle.z2z4.proofs.z2z4_encode.Tie as tie
 
@@ -23,7 +23,7 @@ returns c =
     let o = c .before .before .«open» .ensures in
     let g = c .before .before .before .before .before .args in
     let h = c .before .if1 .taken in
-    let y = encoded (g .t) (g .r) (g .message .now) (g .out .now) in (
+    let y = encodes-as-opened (g .t) (g .r) (g .message .now) (g .out .now) in (
       toZ-ofZ w32 _ (record { sfits = c .answer .ok }) ∙ by-refusal (y .answers) o h (c .answer .ensures),
       by-refusal (y .writes) o h refl,
     )
@@ -48,7 +48,7 @@ returns-2 c =
     let o = q .before .before .before .«open» .ensures in
     let g = q .before .before .before .before .before .before .args in
     let h = q .before .before .if1 .left in
-    let y = encoded (g .t) (g .r) (g .message .now) (g .out .now) in (
+    let y = encodes-as-opened (g .t) (g .r) (g .message .now) (g .out .now) in (
       toZ-ofZ w32 _ (record { sfits = c .answer2 .ok })
           ∙ by-record (y .answers) o h (c .answer2 .ensures ∙ ap (λ (x : Answer). signed (x .refusal) 0) (q .encode .ensures .0)),
       by-record (y .writes) o h (q .encode .ensures .1),

@@ -1,6 +1,6 @@
 -- `coder::count::counted` meets its contract: each count is at most their sum, which is not full. Assumes nothing.
 use borrow.Author.Needs.{needs}
-use Rattle.coder.proofs.Corrections.{counted-by}
+use Rattle.coder_theory.proofs.Corrections.{counted-by}
 use Rattle.coder.proofs.count.counted.Statement.{statement}
 use Rattle.coder.proofs.count.counted.Tie as tie
 

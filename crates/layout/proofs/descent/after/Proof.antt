@@ -4,7 +4,7 @@ use mathlib.Core.Bool.{Bool}
 use Prim.Native.Nat.{ℕ, zero, suc, _%_, _<_}
 use native.Mathlib.Omega.{arith}
 use lib.Dec.{eqb}
-use Rattle.layout.specs.Parts.{lowAfter}
+use Rattle.blocks_theory.specs.Indices.{lowAfter}
 use Rattle.layout.proofs.descent.after.Statement.{statement}
 use Rattle.layout.proofs.descent.after.Tie as tie
 

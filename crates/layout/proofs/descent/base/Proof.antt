@@ -2,13 +2,14 @@
 use borrow.Author.Needs.{needs}
 use mathlib.Core.Path.{_≡_}
 use native.Mathlib.Omega.{arith}
-use Rattle.group.specs.Group.{moduli, times}
-use Rattle.group.proofs.Laws.{valid-times}
+use Rattle.group_theory.specs.Group.{moduli, times}
+use Rattle.group_theory.proofs.Laws.{valid-times}
 use Prim.Native.Nat.{_+_, _-_, _*_, _/_, _%_, _^_, _<_, _≤_}
 use lib.ListN.{getD}
-use Rattle.layout.specs.Parts.{pick, firstWidth, lowWidth, offset}
-use Rattle.layout.proofs.Descents.{factor-small}
-use Rattle.layout.proofs.Rising.{Rising, rising-start, rising-step, rising-end, rising-asks, sign-turn, times-digit}
+use Rattle.layout_theory.specs.Choice.{pick}
+use Rattle.blocks_theory.specs.Indices.{firstWidth, lowWidth, offset}
+use Rattle.blocks_theory.proofs.Descents.{factor-small}
+use Rattle.blocks_theory.proofs.Rising.{Rising, rising-start, rising-step, rising-end, rising-asks, sign-turn, times-digit}
 use Rattle.layout.proofs.descent.base.Statement.{statement}
 use Rattle.layout.proofs.descent.base.Tie as tie
 

@@ -3,7 +3,7 @@ use borrow.Author.Needs.{needs}
 use mathlib.Core.Path.{refl}
 use Prim.Native.Nat.{_-_}
 use native.Mathlib.Omega.{arith}
-use Rattle.layout.proofs.Descents.{LowBits, bits-step, bits-end}
+use Rattle.blocks_theory.proofs.Descents.{LowBits, bits-step, bits-end}
 use Rattle.layout.proofs.descent.bits.Statement.{statement}
 use Rattle.layout.proofs.descent.bits.Tie as tie
 

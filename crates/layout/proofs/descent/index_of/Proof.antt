@@ -1,7 +1,7 @@
 -- `layout::descent::index_of` meets its contract: where the block starts, and the number in it. Assumes nothing.
 use borrow.Author.Needs.{needs}
 use native.Mathlib.Omega.{arith}
-use Rattle.layout.proofs.Rising.{numbers-few, based-at}
+use Rattle.blocks_theory.proofs.Rising.{numbers-few, based-at}
 use Rattle.layout.proofs.descent.index_of.Statement.{statement}
 use Rattle.layout.proofs.descent.index_of.Tie as tie
 

@@ -2,7 +2,7 @@
 use mathlib.Core.Path.{_≡_, refl}
 use Prim.Native.Nat.{ℕ, zero, suc, _%_, _<_}
 use native.Mathlib.Omega.{arith}
-use Rattle.group.specs.Sign.{oddOr}
+use Rattle.group_theory.specs.Sign.{oddOr}
 use Rattle.layout.proofs.descent.lead_after.Statement.{statement}
 use Rattle.layout.proofs.descent.lead_after.Tie as tie
 

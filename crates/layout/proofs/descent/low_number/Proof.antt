@@ -4,8 +4,8 @@ use mathlib.Core.Path.{_≡_, ap, _∙_}
 use Prim.Native.Nat.{ℕ, _+_, _-_, _*_, _%_, _^_, _<_, _≤_}
 use native.Mathlib.Omega.{arith}
 use lib.ListN.{getD, drop}
-use Rattle.group.specs.Group.{moduli, number}
-use Rattle.layout.proofs.Rising.{number-start, low-turn}
+use Rattle.group_theory.specs.Group.{moduli, number}
+use Rattle.blocks_theory.proofs.Rising.{number-start, low-turn}
 use Rattle.layout.proofs.descent.low_number.Statement.{statement}
 use Rattle.layout.proofs.descent.low_number.Tie as tie
 

@@ -4,9 +4,9 @@ use mathlib.Core.Path.{_≡_, sym, ap, _∙_}
 use Prim.Native.Nat.{ℕ, _+_, _-_, _≤_}
 use native.Mathlib.Omega.{arith}
 use lib.ListN.{getD, drop}
-use Rattle.group.specs.Group.{moduli}
-use Rattle.group.specs.Sign.{lead, oddOr}
-use Rattle.layout.proofs.Rising.{lead-start, sign-turn, lead-end}
+use Rattle.group_theory.specs.Group.{moduli}
+use Rattle.group_theory.specs.Sign.{lead, oddOr}
+use Rattle.blocks_theory.proofs.Rising.{lead-start, sign-turn, lead-end}
 use Rattle.layout.proofs.descent.sign.Statement.{statement}
 use Rattle.layout.proofs.descent.sign.Tie as tie
 

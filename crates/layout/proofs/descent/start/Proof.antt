@@ -2,7 +2,7 @@
 use borrow.Author.Needs.{needs}
 use Prim.Native.Nat.{_≤_}
 use native.Mathlib.Omega.{arith}
-use Rattle.layout.proofs.Rising.{start-at, twice-small}
+use Rattle.blocks_theory.proofs.Rising.{start-at, twice-small}
 use Rattle.layout.proofs.descent.start.Statement.{statement}
 use Rattle.layout.proofs.descent.start.Tie as tie
 

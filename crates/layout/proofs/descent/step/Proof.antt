@@ -2,7 +2,7 @@
 use borrow.Author.Needs.{needs}
 use Prim.Native.Nat.{_+_, _≤_}
 use native.Mathlib.Omega.{arith}
-use Rattle.layout.proofs.Descents.{block-found}
+use Rattle.blocks_theory.proofs.Descents.{block-found}
 use Rattle.layout.proofs.descent.step.Statement.{statement}
 use Rattle.layout.proofs.descent.step.Tie as tie
 

@@ -3,8 +3,9 @@ use borrow.Author.Needs.{needs}
 use mathlib.Core.Path.{refl}
 use Prim.Native.Nat.{_+_, _*_, _/_, _^_, _<_, _≤_}
 use native.Mathlib.Omega.{arith}
-use Rattle.layout.specs.Parts.{pick, firstWidth, lowWidth, InBlock}
-use Rattle.layout.proofs.Descents.{factor-small, Falling, falling-asks, falling-start, falling-step, falling-end}
+use Rattle.layout_theory.specs.Choice.{pick}
+use Rattle.blocks_theory.specs.Indices.{firstWidth, lowWidth, InBlock}
+use Rattle.blocks_theory.proofs.Descents.{factor-small, Falling, falling-asks, falling-start, falling-step, falling-end}
 use Rattle.layout.proofs.descent.top.Statement.{statement}
 use Rattle.layout.proofs.descent.top.Tie as tie
 

@@ -3,7 +3,7 @@ use borrow.Author.Needs.{needs}
 use mathlib.Core.Path.{_≡_, ap, _∙_}
 use Prim.Native.Nat.{ℕ, _+_, _*_, _^_}
 use native.Mathlib.Omega.{arith}
-use Rattle.layout.proofs.Skips.{plus-down, plus-whole, FoursBefore, fours-start, fours-found, fours-step, fours-end}
+use Rattle.blocks_theory.proofs.Skips.{plus-down, plus-whole, FoursBefore, fours-start, fours-found, fours-step, fours-end}
 use Rattle.layout.proofs.skip.fours_before.Statement.{statement}
 use Rattle.layout.proofs.skip.fours_before.Tie as tie
 

@@ -3,7 +3,7 @@ use borrow.Author.Needs.{needs}
 use native.Mathlib.Omega.{arith}
 use mathlib.Core.Path.{_≡_, ap, _∙_}
 use Prim.Native.Nat.{ℕ, _+_, _*_, _^_}
-use Rattle.layout.proofs.Skips.{PairPast, plus-down, plus-whole, pair-small, pair-start, pair-found, pair-step, pair-none}
+use Rattle.blocks_theory.proofs.Skips.{PairPast, plus-down, plus-whole, pair-small, pair-start, pair-found, pair-step, pair-none}
 use Rattle.layout.proofs.skip.pair_index.Statement.{statement}
 use Rattle.layout.proofs.skip.pair_index.Tie as tie
 

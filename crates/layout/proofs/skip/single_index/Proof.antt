@@ -2,7 +2,7 @@
 use borrow.Author.Needs.{needs}
 use native.Mathlib.Omega.{arith}
 use mathlib.Core.Path.{refl}
-use Rattle.layout.proofs.Skips.{SinglePast, single-found, single-step, single-end}
+use Rattle.blocks_theory.proofs.Skips.{SinglePast, single-found, single-step, single-end}
 use Rattle.layout.proofs.skip.single_index.Statement.{statement}
 use Rattle.layout.proofs.skip.single_index.Tie as tie
 

@@ -1,6 +1,6 @@
 -- `layout::skip::twos_before` meets its contract: from the last unit down, the first that stands before the index. Assumes nothing.
 use borrow.Author.Needs.{needs}
-use Rattle.layout.proofs.Skips.{TwosBefore, twos-start, twos-found, twos-step, twos-end}
+use Rattle.blocks_theory.proofs.Skips.{TwosBefore, twos-start, twos-found, twos-step, twos-end}
 use Rattle.layout.proofs.skip.twos_before.Statement.{statement}
 use Rattle.layout.proofs.skip.twos_before.Tie as tie
 

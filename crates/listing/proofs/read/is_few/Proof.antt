@@ -1,15 +1,15 @@
 -- `listing::read::is_few` meets its contract, by the test of each branch. Assumes nothing.
 use borrow.Author.Tests.{lt-leb, le-leb}
-use Rattle.listing.specs.Form.{few}
+use Rattle.listing_theory.specs.Form.{oneToFour}
 use Rattle.listing.proofs.read.is_few.Statement.{statement}
 use Rattle.listing.proofs.read.is_few.Tie as tie
 
 returns : tie.Need-returns
-unfolding few
+unfolding oneToFour
 returns c = simp (lt-leb _ _ (c .if1 .taken))
 
 returns-2 : tie.Need-returns-2
-unfolding few
+unfolding oneToFour
 returns-2 c = simp (le-leb _ _ (c .if1 .left))
 
 pub is-few-spec : {M : Type 1} → statement M

@@ -3,10 +3,10 @@ use borrow.Author.Needs.{needs}
 use mathlib.Core.Path.{_≡_, ap, sym}
 use Prim.Native.Nat.{ℕ, _≤_, _-_}
 use native.Mathlib.Omega.{arith}
-use Rattle.listing.specs.Sheet.{placeLines}
-use Rattle.listing.specs.Puts.{Puts}
-use Rattle.listing.proofs.Lengths.{lines-length, lines-last}
-use Rattle.listing.proofs.Putting.{joined, renamed, puts-none, puts-length}
+use Rattle.listing_theory.specs.Puts.{Puts}
+use Rattle.listing_theory.specs.Sheet.{placeLines}
+use Rattle.listing_theory.proofs.Lengths.{lines-length, lines-last}
+use Rattle.listing_theory.proofs.Putting.{joined, renamed, puts-none, puts-length}
 use Rattle.listing.proofs.write.places.Statement.{statement}
 use Rattle.listing.proofs.write.places.Tie as tie
 

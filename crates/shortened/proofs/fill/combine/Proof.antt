@@ -2,8 +2,7 @@
 use mathlib.Core.Path.{refl, sym, _∙_}
 use native.Mathlib.Omega.{arith}
 use borrow.Author.Needs.{needs}
-use Rattle.shortened.proofs.Guards.{word-room}
-use Rattle.shortened.proofs.Filled.{combine-handed}
+use Rattle.loops_theory.proofs.Filled.{word-room, combine-handed}
 use Rattle.shortened.proofs.fill.combine.Statement.{statement}
 use Rattle.shortened.proofs.fill.combine.Tie as tie
 

@@ -2,9 +2,8 @@
 use mathlib.Core.Path.{refl}
 use native.Mathlib.Omega.{arith}
 use borrow.Author.Needs.{needs}
-use Rattle.layout.proofs.Parameters.{known-for}
-use Rattle.shortened.proofs.Guards.{message-room, places-room}
-use Rattle.shortened.proofs.Filled.{encode-handed}
+use Rattle.layout_theory.proofs.Parameters.{known-for}
+use Rattle.loops_theory.proofs.Filled.{message-room, places-room, encode-handed}
 use Rattle.shortened.proofs.fill.encode.Statement.{statement}
 use Rattle.shortened.proofs.fill.encode.Tie as tie
 

@@ -2,9 +2,8 @@
 use mathlib.Core.Path.{ap, _∙_}
 use native.Mathlib.Omega.{arith}
 use borrow.Author.Needs.{needs}
-use Rattle.words.specs.Calls as calls
-use Rattle.shortened.proofs.Guards.{word-room}
-use Rattle.shortened.proofs.Filled.{fault-filled}
+use Rattle.words_theory.specs.Calls as calls
+use Rattle.loops_theory.proofs.Filled.{word-room, fault-filled}
 use Rattle.shortened.proofs.fill.fault.Statement.{statement}
 use Rattle.shortened.proofs.fill.fault.Tie as tie
 

@@ -4,8 +4,8 @@ use Prim.Native.Nat.{_-_}
 use native.Mathlib.Omega.{arith}
 use lib.ListN.{length}
 use borrow.Author.Needs.{needs}
-use Rattle.folds.specs.Folds.{room}
-use Rattle.shortened.proofs.Filled.{Copied, take-zeros, copy-start, copy-step, copy-end}
+use Rattle.folds_theory.specs.Folds.{room}
+use Rattle.loops_theory.proofs.Filled.{Copied, take-zeros, copy-start, copy-step, copy-end}
 use Rattle.shortened.proofs.fill.filled.Statement.{statement}
 use Rattle.shortened.proofs.fill.filled.Tie as tie
 

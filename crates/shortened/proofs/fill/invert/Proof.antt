@@ -2,8 +2,7 @@
 use mathlib.Core.Path.{refl}
 use native.Mathlib.Omega.{arith}
 use borrow.Author.Needs.{needs}
-use Rattle.shortened.proofs.Guards.{word-room}
-use Rattle.shortened.proofs.Filled.{invert-handed}
+use Rattle.loops_theory.proofs.Filled.{word-room, invert-handed}
 use Rattle.shortened.proofs.fill.invert.Statement.{statement}
 use Rattle.shortened.proofs.fill.invert.Tie as tie
 

@@ -1,0 +1,231 @@
+-- Demand 1, call by call: refused with x exactly where x is the first of the call's reasons that applies, and accepted exactly where none
+-- does; what each reason says; and that every admitted pair opens and every place of its layout is told. Assumes nothing.
+use mathlib.Core.Path.{_≡_, refl, sym, ap, subst, _∙_}
+use mathlib.Core.Logic.{_⊎_, inl, inr, ⊎-elim, _≢_, _↔_}
+use mathlib.Core.List.{List}
+use mathlib.Core.Bool.{Bool, true, false, _||_, not, true≢false}
+use Prim.Native.Nat.{ℕ, zero, suc, _≤_, _<_}
+use native.Mathlib.Omega.{arith}
+use lib.Dec.{eqb, ltb}
+use lib.ListN.{length}
+use borrow.Author.Tests.{eqb-true, eqb-false, ltb-true, eq-eqb, ne-eqb, lt-ltb, not-true}
+use Rattle.layout_theory.specs.Parameters.{Admitted, admits}
+use Rattle.layout_theory.proofs.Parameters.{admits-admitted, admitted-admits}
+use Rattle.words_theory.specs.Words.{Bits}
+use Rattle.shortened_theory.specs.Allowed.{Allowed, allows}
+use Rattle.shortened_theory.specs.Code.{LeftOut, isLeftOut}
+use Rattle.shortened_theory.proofs.Between.{allows-allowed, allowed-allows, zero-allowed}
+use Rattle.coder_theory.specs.State.{Fit, Usable, fresh, isUnfit, placesIn, elementIn, fullCount}
+use Rattle.coder_theory.specs.Reasons.{notAdmitted, notAllowed, leftOut, wrongLength, shortOutput, badPlace, badByte, outside, equalPlaces, closed, unfit, full}
+use Rattle.coder_theory.specs.Calls.{inForce, openReasons, opened, layoutReasons, elementAnswer, wordReasons, syndromeAnswer, codewordAnswer}
+use Rattle.coder_theory.specs.Calls.{correctReasons, correctAnswer, correctOutput, combineReasons, combineAnswer, combineOutput}
+use Rattle.coder_theory.specs.Calls.{encodeReasons, encodeAnswer, encodeOutput, invertReasons, invertAnswer, invertOutput, thirdReasons, thirdAnswer}
+use Rattle.coder_theory.specs.Claims.{Refuses}
+use Rattle.coder_theory.specs.declared.Record.{Record}
+use Rattle.coder_theory.specs.declared.Opened.{Opened}
+use Rattle.coder_theory.proofs.Firsts.{by-first}
+use Rattle.coder_theory.proofs.States.{fit-true, true-fit, usable-true}
+use Rattle.coder_theory.proofs.Corrections.{left-false, left-true}
+use Rattle.coder_theory.proofs.Bytes.{bits-none, none-bits}
+use Rattle.coder_theory.proofs.Outcomes.{if-refused}
+use Rattle.coder_theory.proofs.Outputs.{encode-kept, combine-kept, invert-kept}
+use Rattle.coder_theory.proofs.Answers.{opened-yes, opened-not-allowed, opened-no, element-inside, element-refusal, outside-yes}
+
+-- ---- "for those reasons only"
+pub open-refuses : (t r s : ℕ) → Refuses (opened t r s .refusal) (openReasons t r s)
+unfolding opened
+open-refuses t r s = by-first (opened t r s .refusal) (openReasons t r s) refl refl
+
+pub layout-refuses : (rec : Record) (p : ℕ) → Refuses (elementAnswer rec p .refusal) (layoutReasons rec p)
+layout-refuses rec p =
+    by-first (elementAnswer rec p .refusal) (layoutReasons rec p) refl
+    (element-refusal rec p)
+
+pub syndrome-refuses : (rec : Record) (w : List ℕ) → Refuses (syndromeAnswer rec w .refusal) (wordReasons rec w)
+unfolding syndromeAnswer
+syndrome-refuses rec w = by-first (syndromeAnswer rec w .refusal) (wordReasons rec w) refl refl
+
+pub codeword-refuses : (rec : Record) (w : List ℕ) → Refuses (codewordAnswer rec w .refusal) (wordReasons rec w)
+unfolding codewordAnswer
+codeword-refuses rec w = by-first (codewordAnswer rec w .refusal) (wordReasons rec w) refl refl
+
+pub encode-refuses : (rec : Record) (m out : List ℕ) → Refuses (encodeAnswer rec m out .refusal) (encodeReasons rec m (length out))
+unfolding encodeAnswer
+encode-refuses rec m out =
+    by-first (encodeAnswer rec m out .refusal) (encodeReasons rec m (length out)) refl refl
+
+pub correct-refuses : (rec : Record) (w out : List ℕ) → Refuses (correctAnswer rec w out .refusal) (correctReasons rec w (length out))
+unfolding correctAnswer
+correct-refuses rec w out = by-first (correctAnswer rec w out .refusal) (correctReasons rec w (length out)) refl refl
+
+pub combine-refuses : (rec : Record) (x y out : List ℕ) → Refuses (combineAnswer rec x y out .refusal) (combineReasons rec x y (length out))
+unfolding combineAnswer
+combine-refuses rec x y out = by-first (combineAnswer rec x y out .refusal) (combineReasons rec x y (length out)) refl refl
+
+pub invert-refuses : (rec : Record) (w out : List ℕ) → Refuses (invertAnswer rec w out .refusal) (invertReasons rec w (length out))
+unfolding invertAnswer
+invert-refuses rec w out =
+    by-first (invertAnswer rec w out .refusal) (invertReasons rec w (length out)) refl refl
+
+pub third-refuses : (rec : Record) (i j : ℕ) → Refuses (thirdAnswer rec i j .refusal) (thirdReasons rec i j)
+unfolding thirdAnswer
+third-refuses rec i j = by-first (thirdAnswer rec i j .refusal) (thirdReasons rec i j) refl refl
+
+-- "every buffer untouched"
+pub encode-untouched : (rec : Record) (m out : List ℕ) → encodeAnswer rec m out .refusal ≢ 0 → encodeOutput rec m out ≡ out
+encode-untouched rec m out h = sym (encode-kept rec m out (encodeAnswer rec m out) refl h)
+
+pub combine-untouched : (rec : Record) (x y out : List ℕ) → combineAnswer rec x y out .refusal ≢ 0 → combineOutput rec x y out ≡ out
+combine-untouched rec x y out h = sym (combine-kept rec x y out (combineAnswer rec x y out) refl h)
+
+-- and "the record as handed in"
+pub correct-untouched : (rec : Record) (w out : List ℕ) → correctAnswer rec w out .refusal ≢ 0
+    → (correctOutput rec w out ≡ out) × (correctAnswer rec w out .«record» ≡ rec)
+unfolding correctAnswer correctOutput
+correct-untouched rec w out h = (if-refused _ _ _ h, if-refused _ _ _ h)
+
+pub invert-untouched : (rec : Record) (w out : List ℕ) → invertAnswer rec w out .refusal ≢ 0 → invertOutput rec w out ≡ out
+invert-untouched rec w out h = sym (invert-kept rec w out (invertAnswer rec w out) refl h)
+
+-- ---- the reasons in document 01's words
+-- 1: t and r are not admitted
+pub one-applies : (t r : ℕ) → (notAdmitted t r .applies ≡ true) ↔ (Admitted t r → ⊥)
+one-applies t r = (
+  (λ e h. true≢false (sym e ∙ ap not (admitted-admits t r h))),
+  (λ n. go (admits t r) refl n),
+)
+  where
+    go : (b : Bool) → admits t r ≡ b → (Admitted t r → ⊥) → not (admits t r) ≡ true
+    go true y n = absurd (n (admits-admitted t r y))
+    go false y n = ap not y
+
+-- 21: t is 0
+pub closed-applies : (rec : Record) → (closed rec .applies ≡ true) ↔ (rec .t ≡ 0)
+closed-applies rec = ((λ e. eqb-true (rec .t) 0 e), (λ e. eq-eqb (rec .t) 0 e))
+
+-- 22: the parameters are not admitted, or words is not the sum of the other counts; r = 0 is never admitted
+pub unfit-applies : (rec : Record) → (unfit rec .applies ≡ true) ↔ (Fit rec → ⊥)
+unfit-applies rec = (
+  (λ e h. true≢false (sym e ∙ fit-true rec h .1)),
+  (λ n. go (isUnfit rec) refl n),
+)
+  where
+    go : (b : Bool) → isUnfit rec ≡ b → (Fit rec → ⊥) → isUnfit rec ≡ true
+    go true y n = y
+    go false y n = absurd (n (true-fit rec y))
+
+-- 10: s is not allowed
+pub allowed-applies : (t r s : ℕ) → (notAllowed t r s .applies ≡ true) ↔ (Allowed t r s → ⊥)
+allowed-applies t r s = (
+  (λ e h. true≢false (sym e ∙ ap not (allowed-allows t r s h))),
+  (λ n. go (allows t r s) refl n),
+)
+  where
+    go : (b : Bool) → allows t r s ≡ b → (Allowed t r s → ⊥) → not (allows t r s) ≡ true
+    go true y n = absurd (n (allows-allowed t r s y))
+    go false y n = ap not y
+
+-- 11: the place is one of the first s
+pub left-applies : (s q : ℕ) → (leftOut s q .applies ≡ true) ↔ LeftOut s q
+left-applies s q = (left-true s q, go (isLeftOut s q) refl)
+  where
+    go : (b : Bool) → isLeftOut s q ≡ b → LeftOut s q → isLeftOut s q ≡ true
+    go true y h = y
+    go false y h = absurd (left-false s q y h)
+
+-- 5: the place is 0 or beyond n
+pub outside-applies : (rec : Record) (p : ℕ) → (outside rec p .applies ≡ true) ↔ ((p ≡ 0) ⊎ (placesIn rec < p))
+outside-applies rec p = (to, outside-yes rec p)
+  where
+    split : (a b : Bool) → (a || b) ≡ true → (a ≡ true) ⊎ (b ≡ true)
+    split true b e = inl refl
+    split false b e = inr e
+
+    to : (eqb p 0 || ltb (placesIn rec) p) ≡ true → (p ≡ 0) ⊎ (placesIn rec < p)
+    to e = ⊎-elim (λ y. inl (eqb-true p 0 y)) (λ y. inr (ltb-true (placesIn rec) p y)) (split (eqb p 0) (ltb (placesIn rec) p) e)
+
+-- 2: the length is another
+pub length-applies : (n : ℕ) (w : List ℕ) → (wrongLength n w .applies ≡ true) ↔ (length w ≢ n)
+length-applies n w = (
+  (λ e. eqb-false (length w) n (not-true (eqb (length w) n) e)),
+  (λ h. ap not (ne-eqb (length w) n h)),
+)
+
+-- 3: the output is shorter than needed
+pub output-applies : (n room : ℕ) → (shortOutput n room .applies ≡ true) ↔ (room < n)
+output-applies n room = ((λ e. ltb-true room n e), (λ l. lt-ltb room n l))
+
+-- 23: words is at 4,294,967,295
+pub full-applies : (rec : Record) → (full rec .applies ≡ true) ↔ (rec .words ≡ fullCount)
+full-applies rec = ((λ e. eqb-true (rec .words) fullCount e), (λ e. eq-eqb (rec .words) fullCount e))
+
+-- 4: the bytes are not all bits
+pub byte-applies : (w : List ℕ) → (badByte w .applies ≡ true) ↔ (Bits w → ⊥)
+byte-applies w = (
+  (λ e h. eqb-false (badPlace w) 0 (not-true (eqb (badPlace w) 0) e) (bits-none 1 w h)),
+  (λ h. ap not (ne-eqb (badPlace w) 0 (λ z. h (none-bits 0 w z)))),
+)
+
+-- 6: the places are equal
+pub equal-applies : (i j : ℕ) → (equalPlaces i j .applies ≡ true) ↔ (i ≡ j)
+equal-applies i j = ((λ e. eqb-true i j e), (λ e. eq-eqb i j e))
+
+-- ---- none of this is empty: every admitted pair opens with every allowed s, with r = t for r = 0, and the record is usable
+in-force : (t r : ℕ) → 2 ≤ r → inForce t r ≡ r
+in-force t zero h = absurd (omega arith)
+in-force t (suc r) h = refl
+
+pub opens : (t r s : ℕ) → Admitted t r → Allowed t r s → opened t r s ≡ record { refusal = 0; «record» = fresh t r s }
+opens t r s h k =
+    let e = in-force t r (h .binary) in
+    opened-yes t r s (ap (admits t) e ∙ admitted-admits t r h) (ap (λ (j : ℕ). allows t j s) e ∙ allowed-allows t r s k)
+    ∙ ap {B = Opened} (λ (k : ℕ). record { refusal = 0; «record» = fresh t k s }) e
+
+-- with s = 0 every admitted pair does
+pub opens-zero : (t r : ℕ) → Admitted t (inForce t r) → opened t r 0 ≡ record { refusal = 0; «record» = fresh t (inForce t r) 0 }
+opens-zero t r h =
+    opened-yes t r 0 (admitted-admits t (inForce t r) h) (allowed-allows t (inForce t r) 0 (zero-allowed t (inForce t r) h))
+
+pub opens-default : (t s : ℕ) → Admitted t t → Allowed t t s → opened t 0 s ≡ record { refusal = 0; «record» = fresh t t s }
+opens-default t s h k = opened-yes t 0 s (admitted-admits t t h) (allowed-allows t t s k)
+
+-- a refused opening gives the closed record with every field 0
+pub opens-not : (t r s : ℕ) → opened t r s .refusal ≢ 0 → opened t r s .«record» ≡ fresh 0 0 0
+opens-not t r s h = go (admits t (inForce t r)) refl (allows t (inForce t r) s) refl
+  where
+    field : {x : ℕ} → opened t r s ≡ record { refusal = x; «record» = fresh 0 0 0 } → opened t r s .«record» ≡ fresh 0 0 0
+    field e = ap (λ (o : Opened). o .«record») e
+
+    go : (a : Bool) → admits t (inForce t r) ≡ a → (b : Bool) → allows t (inForce t r) s ≡ b → opened t r s .«record» ≡ fresh 0 0 0
+    go true y true z = absurd (h (ap (λ (o : Opened). o .refusal) (opened-yes t r s y z)))
+    go true y false z = field (opened-not-allowed t r s y z)
+    go false y b z = field (opened-no t r s y)
+
+pub fresh-fit : (t r s : ℕ) → Admitted t r → Fit (fresh t r s)
+fresh-fit t r s h = record { admitted = h; sums = refl }
+
+-- an accepted one gives a record of the code asked for, with every count at 0
+opened-admits : (t r s : ℕ) → opened t r s .refusal ≡ 0 → (admits t (inForce t r) ≡ true) × (allows t (inForce t r) s ≡ true)
+opened-admits t r s h = go (admits t (inForce t r)) refl (allows t (inForce t r) s) refl
+  where
+    never : {x : ℕ} → opened t r s ≡ record { refusal = x; «record» = fresh 0 0 0 } → x ≢ 0 → ⊥
+    never e n = n (sym (ap (λ (o : Opened). o .refusal) e) ∙ h)
+
+    go : (a : Bool) → admits t (inForce t r) ≡ a → (b : Bool) → allows t (inForce t r) s ≡ b → (admits t (inForce t r) ≡ true) × (allows t (inForce t r) s ≡ true)
+    go true y true z = (y, z)
+    go true y false z = absurd (never (opened-not-allowed t r s y z) (λ z. omega arith))
+    go false y b z = absurd (never (opened-no t r s y) (λ z. omega arith))
+
+pub opened-fresh : (t r s : ℕ) → opened t r s .refusal ≡ 0 → opened t r s .«record» ≡ fresh t (inForce t r) s
+opened-fresh t r s h = let k = opened-admits t r s h in ap (λ (o : Opened). o .«record») (opened-yes t r s (k .0) (k .1))
+
+pub opened-usable : (t r s : ℕ) → opened t r s .refusal ≡ 0 → Usable (opened t r s .«record»)
+opened-usable t r s h =
+    let k = opened-admits t r s h in
+    let f = fresh-fit t (inForce t r) s (admits-admitted t (inForce t r) (k .0)) in
+    subst Usable (sym (opened-fresh t r s h)) (record { fit = f; allowed = allows-allowed t (inForce t r) s (k .1) })
+
+-- every place of a fit record is told
+pub tells : (rec : Record) (p : ℕ) → Usable rec → 0 < p → p ≤ placesIn rec
+    → elementAnswer rec p ≡ record { refusal = 0; place = 0; element = elementIn rec p }
+tells rec p h l k = element-inside rec (usable-true rec h) p (λ z. omega arith) k

@@ -1,0 +1,196 @@
+-- Request C-17: what the calls on a usable record tell and write, beside what they do with s = 0: `shortens`. Its statement is in
+-- specs/Claims. Assumes nothing.
+use mathlib.Core.Path.{_≡_, refl, sym, ap, ap₂, subst, _∙_}
+use mathlib.Core.Bool.{Bool}
+use mathlib.Core.List.{List}
+use Prim.Native.Nat.{ℕ, _+_, _-_, _≤_, _<_}
+use native.Mathlib.Omega.{arith}
+use lib.ListN.{length, take}
+use Rattle.group_theory.specs.Group.{Modulus, number}
+use Rattle.layout_theory.specs.Parameters.{placesOf, messageOf, moduliFor}
+use Rattle.layout_theory.specs.Layout.{elementAt}
+use Rattle.words_theory.specs.Words.{Word, zeroWord, flip}
+use Rattle.words_theory.specs.Syndrome.{lengthOf}
+use Rattle.words_theory.proofs.Reading.{reads-word}
+use Rattle.words_theory.proofs.Perfect.{flip-place-reads}
+use Rattle.words_theory.proofs.Thirds.{zero-word}
+use Rattle.words_theory.proofs.Theorem.{length-code, length-message-code}
+use Rattle.shortened_theory.specs.Allowed.{Allowed}
+use Rattle.shortened_theory.specs.Code.{fill, oldPlace, shortenedElementAt, shortenedSyndrome, isShortenedCodeword}
+use Rattle.shortened_theory.specs.Claims.{ShortenedOf}
+use Rattle.shortened_theory.proofs.Filling.{old-sum, word-fill, fill-word, fill-zero, flip-fill}
+use Rattle.shortened_theory.proofs.Encodings.{fill-encode}
+use Rattle.shortened_theory.proofs.Between.{zero-allowed}
+use Rattle.shortened_theory.proofs.Theorem.{shortened-code}
+use Rattle.shortened_theory.proofs.Whole.{new-zero, element-zero, encode-zero, combine-zero, inverse-zero}
+use Rattle.coder_theory.specs.State.{Usable, RecordOf, moduliIn, placesIn, messageIn, elementIn, syndromeIn, numberIn, isCodewordIn}
+use Rattle.coder_theory.specs.Calls.{wordLength, messageLength, elementAnswer, syndromeAnswer, codewordAnswer, encodeOutput, combineOutput, invertOutput}
+use Rattle.coder_theory.specs.Claims.{Shortens}
+use Rattle.coder_theory.specs.Demand3.{OwnRecord}
+use Rattle.coder_theory.specs.declared.Record.{Record}
+use Rattle.coder_theory.specs.declared.ElementAnswer.{ElementAnswer}
+use Rattle.coder_theory.proofs.States.{usable-true, zero-usable, code-in}
+use Rattle.coder_theory.proofs.Answers.{usable-length}
+use Rattle.coder_theory.proofs.Refusals.{tells}
+use Rattle.coder_theory.proofs.Accepted.{syndrome-accepts, codeword-accepts}
+use Rattle.coder_theory.proofs.Does.{encode-does, combine-does, invert-does}
+
+module _ (rec whole : Record) (f : Usable rec) (c : RecordOf (rec .t) (rec .r) 0 whole) where
+  abbrev ms : List Modulus
+  ms = moduliIn rec
+
+  -- n − s and n
+  abbrev k : ℕ
+  k = placesOf (rec .t) - rec .s
+
+  abbrev n : ℕ
+  n = placesOf (rec .t)
+
+  u : Usable whole
+  u = zero-usable whole (c .fit) (c .isS)
+
+  few : rec .s ≤ n
+  few = let s = f .allowed .stays in omega arith
+
+  in-whole : placesIn whole ≡ n
+  unfolding placesIn
+  in-whole = ap₂ (λ (t s : ℕ). placesOf t - s) (c .isT) (c .isS) ∙ omega arith
+
+  filled : {w : List ℕ} → Word k w → Word (placesIn whole) (fill (rec .s) w)
+  filled {w} h = subst (λ (m : ℕ). Word m (fill (rec .s) w)) (sym in-whole) (word-fill n (rec .s) few h)
+
+  -- anything of the whole record's moduli and s is of these and 0
+  at-zero : {A : Type 0} (g : List Modulus → ℕ → A) → g (moduliIn whole) (whole .s) ≡ g ms 0
+  at-zero g = ap₂ g (ap₂ moduliFor (c .isT) (c .isR)) (c .isS)
+
+  -- ---- what is told
+  same-element : (p : ℕ) → 0 < p → elementIn rec p ≡ elementIn whole (p + rec .s)
+  unfolding elementIn shortenedElementAt
+  same-element p a =
+      ap (λ (q : ℕ). number ms (elementAt ms q)) (old-sum (rec .s) p (λ z. omega arith))
+      ∙ ap (number ms) (sym (element-zero ms (p + rec .s)))
+      ∙ sym (at-zero (λ (m : List Modulus) (s : ℕ). number m (shortenedElementAt m s (p + rec .s))))
+
+  elements : (p : ℕ) → 0 < p → p ≤ k → elementAnswer rec p ≡ elementAnswer whole (p + rec .s)
+  unfolding placesIn
+  elements p a b =
+      tells rec p f a b
+      ∙ ap (λ (e : ℕ). record { refusal = 0; place = 0; element = e }) (same-element p a)
+      ∙ sym (tells whole (p + rec .s) u (omega arith) (let e = in-whole in let s = few in omega arith))
+
+  same-syndrome : (w : List ℕ) → numberIn rec (syndromeIn rec w) ≡ numberIn whole (syndromeIn whole (fill (rec .s) w))
+  unfolding numberIn syndromeIn shortenedSyndrome
+  same-syndrome w = sym (at-zero (λ (m : List Modulus) (s : ℕ). number m (shortenedSyndrome m s (fill (rec .s) w))))
+
+  syndromes : (w : List ℕ) → Word k w → syndromeAnswer rec w ≡ syndromeAnswer whole (fill (rec .s) w)
+  unfolding placesIn
+  syndromes w h =
+      syndrome-accepts rec w f h
+      ∙ ap (λ (e : ℕ). record { refusal = 0; place = 0; element = e }) (same-syndrome w)
+      ∙ sym (syndrome-accepts whole (fill (rec .s) w) u (filled h))
+
+  same-test : (w : List ℕ) → isCodewordIn rec w ≡ isCodewordIn whole (fill (rec .s) w)
+  unfolding isCodewordIn
+  same-test w = sym (at-zero (λ (m : List Modulus) (s : ℕ). isShortenedCodeword m s (fill (rec .s) w)))
+
+  tests : (w : List ℕ) → Word k w → codewordAnswer rec w ≡ codewordAnswer whole (fill (rec .s) w)
+  unfolding placesIn
+  tests w h =
+      codeword-accepts rec w f h
+      ∙ ap (λ (y : Bool). record { refusal = 0; place = 0; yes = y }) (same-test w)
+      ∙ sym (codeword-accepts whole (fill (rec .s) w) u (filled h))
+
+  -- words of the code's length, by t and by its moduli
+  by-t : {w : List ℕ} → Word (lengthOf ms - rec .s) w → Word k w
+  by-t {w} h = subst (λ (m : ℕ). Word (m - rec .s) w) (length-code (rec .t) (rec .r) (f .fit .admitted)) h
+
+  one-word : (p : ℕ) → Word k (flip p (zeroWord k))
+  one-word p =
+      let l = length-code (rec .t) (rec .r) (f .fit .admitted) in
+      let z : fill (rec .s) (flip p (zeroWord k)) ≡ flip (oldPlace (rec .s) p) (zeroWord (lengthOf ms)) =
+      flip-fill (rec .s) p (zeroWord k) ∙ ap (flip (oldPlace (rec .s) p)) (fill-zero n (rec .s) few ∙ ap zeroWord (sym l)) in
+      by-t (fill-word (lengthOf ms) (rec .s) (subst (Word (lengthOf ms)) (sym z) (reads-word ms (flip-place-reads ms (zero-word ms) (oldPlace (rec .s) p)))))
+
+  ones : (p : ℕ) → 0 < p → p ≤ k → syndromeAnswer rec (flip p (zeroWord k)) .element ≡ elementAnswer rec p .element
+  unfolding placesIn elementIn syndromeIn numberIn
+  ones p a b =
+      let l = length-code (rec .t) (rec .r) (f .fit .admitted) in
+      ap (λ (x : ElementAnswer). x .element) (syndrome-accepts rec (flip p (zeroWord k)) f (one-word p))
+      ∙ ap (number ms)
+      (ap (λ (m : ℕ). shortenedSyndrome ms (rec .s) (flip p (zeroWord (m - rec .s)))) (sym l) ∙ code-in rec f .groups .ones p (rw l b))
+      ∙ sym (ap (λ (x : ElementAnswer). x .element) (tells rec p f a b))
+
+  -- ---- what is written, with an output of its own
+  abbrev own : (out : List ℕ) → k ≤ length out → OwnRecord (rec .t) (rec .r) (rec .s)
+  own out l = record { given = rec; code = record { isT = refl; isR = refl; isS = refl; fit = f .fit }; output = out; enough = l }
+
+  abbrev own-whole : (v : List ℕ) → n ≤ length v → OwnRecord (rec .t) (rec .r) 0
+  own-whole v l = record { given = whole; code = c; output = v; enough = omega arith }
+
+  none : Allowed (rec .t) (rec .r) 0
+  none = zero-allowed (rec .t) (rec .r) (f .fit .admitted)
+
+  entire : ShortenedOf (rec .t) (rec .r) 0
+  entire = shortened-code (rec .t) (rec .r) 0 (f .fit .admitted) none
+
+  -- n places are n − 0
+  less : {m : ℕ} {w : List ℕ} → Word m w → Word (m - 0) w
+  less {m} {w} h = subst (λ (j : ℕ). Word j w) (sym (new-zero m)) h
+
+  by-n : {w : List ℕ} → Word (lengthOf ms - 0) w → Word (n - 0) w
+  by-n {w} h = subst (λ (m : ℕ). Word (m - 0) w) (length-code (rec .t) (rec .r) (f .fit .admitted)) h
+
+  all : (v : List ℕ) → take (n - 0) v ≡ take n v
+  all v = ap (λ (m : ℕ). take m v) (new-zero n)
+
+  encodes : (m out v : List ℕ) → Word (messageOf (rec .t) - rec .s) m → k ≤ length out → n ≤ length v
+      → fill (rec .s) (take k (encodeOutput rec m out)) ≡ take n (encodeOutput whole (fill (rec .s) m) v)
+  encodes m out v h l l′ =
+      let st = f .allowed .stays in
+      let q = length-message-code (rec .t) (rec .r) (f .fit .admitted) in
+      let g : Word (messageOf (rec .t) - 0) (fill (rec .s) m) = less (word-fill (messageOf (rec .t)) (rec .s) (omega arith) h) in
+      ap (fill (rec .s)) (encode-does (f .allowed) (own out l) m h (by-t (fill-word (lengthOf ms) (rec .s) (code-in rec f .encodes m h .codeword .isWord))) .1)
+      ∙ fill-encode ms (rec .s) (omega arith) m
+      ∙ sym (encode-zero ms (fill (rec .s) m))
+      ∙ sym (encode-does none (own-whole v l′) (fill (rec .s) m) g (by-n (less (entire .encodes (fill (rec .s) m) g .codeword .isWord))) .1)
+      ∙ all (encodeOutput whole (fill (rec .s) m) v)
+
+  combines : (x y out v : List ℕ) → Word k x → Word k y → k ≤ length out → n ≤ length v
+      → fill (rec .s) (take k (combineOutput rec x y out)) ≡ take n (combineOutput whole (fill (rec .s) x) (fill (rec .s) y) v)
+  combines x y out v h i l l′ =
+      ap (fill (rec .s)) (combine-does (f .allowed) (own out l) x y h i .1)
+      ∙ code-in rec f .commutes .combines x y
+      ∙ sym (combine-zero ms (fill (rec .s) x) (fill (rec .s) y))
+      ∙ sym (combine-does none (own-whole v l′) (fill (rec .s) x) (fill (rec .s) y) (less (word-fill n (rec .s) few h)) (less (word-fill n (rec .s) few i)) .1)
+      ∙ all (combineOutput whole (fill (rec .s) x) (fill (rec .s) y) v)
+
+  -- words of n − s places by the code's moduli
+  by-ms : {w : List ℕ} → Word k w → Word (lengthOf ms - rec .s) w
+  by-ms {w} h = subst (λ (m : ℕ). Word (m - rec .s) w) (sym (length-code (rec .t) (rec .r) (f .fit .admitted))) h
+
+  inverts : (w out v : List ℕ) → Word k w → k ≤ length out → n ≤ length v
+      → fill (rec .s) (take k (invertOutput rec w out)) ≡ take n (invertOutput whole (fill (rec .s) w) v)
+  inverts w out v h l l′ =
+      let g = word-fill n (rec .s) few h in
+      let e : Word (lengthOf ms - 0) (fill (rec .s) w) =
+      less (subst (λ (m : ℕ). Word m (fill (rec .s) w)) (sym (length-code (rec .t) (rec .r) (f .fit .admitted))) g) in
+      ap (fill (rec .s)) (invert-does (f .allowed) (own out l) w h (by-t (code-in rec f .groups .inverts w (by-ms h) .0)))
+      ∙ code-in rec f .commutes .inverts w
+      ∙ sym (inverse-zero ms (fill (rec .s) w))
+      ∙ sym (invert-does none (own-whole v l′) (fill (rec .s) w) (less g) (by-n (entire .groups .inverts (fill (rec .s) w) e .0)))
+      ∙ all (invertOutput whole (fill (rec .s) w) v)
+
+  pub shortens : Shortens rec whole
+  unfolding wordLength messageLength placesIn messageIn
+  shortens =
+      record {
+        places = usable-length rec (placesIn rec) (usable-true rec f);
+        message = usable-length rec (messageIn rec) (usable-true rec f);
+        elements = elements;
+        syndromes = syndromes;
+        tests = tests;
+        ones = ones;
+        encodes = encodes;
+        combines = combines;
+        inverts = inverts;
+      }

@@ -1,0 +1,88 @@
+-- Demand 2: "the counts in a record that is handed on unaltered from call to call equal what the accepted corrections since its opening came
+-- to". A run of calls, what its corrections came to, and the counts. The theorems are `counts` and `meant` (proofs/Counting): `Counts` and
+-- `AllMeant` hold of every run from an opening that is accepted. Assumes nothing.
+use mathlib.Core.Path.{_≡_}
+use mathlib.Core.Logic.{_↔_, _⊎_}
+use mathlib.Core.Bool.{Bool, true, _&&_}
+use mathlib.Core.List.{List, [], _∷_}
+use Prim.Native.Nat.{ℕ, _+_, _-_, _<_, _≤_}
+use lib.Dec.{eqb}
+use Rattle.layout_theory.specs.Choice.{oneIf}
+use Rattle.layout_theory.specs.Parameters.{placesOf, messageOf, binaryOf, moduliFor}
+use Rattle.words_theory.specs.Words.{Word, flip}
+use Rattle.shortened_theory.specs.Code.{ShortenedCodeword, isShortenedBinary, isShortenedPaired}
+use Rattle.coder_theory.specs.State.{Usable, fullCount}
+use Rattle.coder_theory.specs.Calls.{correctAnswer}
+use Rattle.coder_theory.specs.declared.Record.{Record}
+
+-- the public calls other than correction, with any arguments beside the record; an output is given by what it holds before the call
+pub data Other : Type 0 where
+  opening : ℕ → ℕ → ℕ → Other
+  thirdPlace : ℕ → ℕ → Other
+  layoutAt : ℕ → Other
+  lengthOfWord lengthOfMessage : Other
+  syndromeOf testing reading : List ℕ → Other
+  encoding inverting : List ℕ → List ℕ → Other
+  combining : List ℕ → List ℕ → List ℕ → Other
+
+pub data Call : Type 0 where
+  correcting : List ℕ → List ℕ → Call
+  other : Other → Call
+
+-- "Other calls leave the record alone.": by their signatures they take it by value and return none (another opening returns another record)
+abbrev pub after : Record → Call → Record
+after rec (correcting w out) = correctAnswer rec w out .«record»
+after rec (other x) = rec
+
+-- the record handed on from call to call
+unfoldable pub run : Record → List Call → Record
+run rec [] = rec
+run rec (x ∷ xs) = run (after rec x) xs
+
+-- what a correction came to: the word that it read, and the number and the place that it answered
+pub record Outcome : Type 0 where
+  pub word : List ℕ
+  pub refusal : ℕ
+  pub place : ℕ
+
+abbrev pub outcome : Record → List ℕ → List ℕ → Outcome
+outcome rec w out = record { word = w; refusal = correctAnswer rec w out .refusal; place = correctAnswer rec w out .place }
+
+unfoldable pub outcomes : Record → List Call → List Outcome
+outcomes rec [] = []
+outcomes rec (correcting w out ∷ xs) = outcome rec w out ∷ outcomes (after rec (correcting w out)) xs
+outcomes rec (other x ∷ xs) = outcomes rec xs
+
+-- how many corrections were accepted and told a place of the kind
+unfoldable pub howMany : (ℕ → Bool) → List Outcome → ℕ
+howMany kind [] = 0
+howMany kind (x ∷ xs) = oneIf (eqb (x .refusal) 0 && kind (x .place)) + howMany kind xs
+
+-- the counts of a record are those of the corrections that were accepted: all; those of place 0; of a binary place; of a place of a pair
+pub record Counts (t r s : ℕ) (rec : Record) (xs : List Outcome) : Type 0 where
+  pub sameT : rec .t ≡ t
+  pub sameR : rec .r ≡ r
+  pub sameS : rec .s ≡ s
+  pub words : rec .words ≡ howMany (λ p. true) xs
+  pub clean : rec .clean ≡ howMany (λ p. eqb p 0) xs
+  pub binary : rec .«corrected_binary» ≡ howMany (isShortenedBinary (moduliFor t r) s) xs
+  pub pairs : rec .«corrected_pairs» ≡ howMany (isShortenedPaired (moduliFor t r) s) xs
+  -- "Counts stop at 4,294,967,295": then corrections are refused, and not counted
+  pub most : rec .words ≤ fullCount
+  -- "Each accepted correction adds one to words and to one of the other three": so the record stays usable
+  pub usable : Usable rec
+
+-- what an accepted correction's place says of the word: place 0 that it was a codeword, a binary place or one of a pair that it is a codeword
+-- with this place flipped. There is no other kind, and the binary places are those that were of part 1, the first k − a, and of part 3, a after the
+-- message, before the first s were left out
+pub record Meant (t r s : ℕ) (x : Outcome) : Type 0 where
+  pub isWord : Word (placesOf t - s) (x .word)
+  pub clean : (x .place ≡ 0) ↔ ShortenedCodeword (moduliFor t r) s (x .word)
+  pub flipped : ShortenedCodeword (moduliFor t r) s (flip (x .place) (x .word))
+  pub kinds : (x .place ≡ 0) ⊎ (isShortenedBinary (moduliFor t r) s (x .place) ≡ true) ⊎ (isShortenedPaired (moduliFor t r) s (x .place) ≡ true)
+  pub binary : (isShortenedBinary (moduliFor t r) s (x .place) ≡ true)
+      ↔ (((1 ≤ x .place) × (x .place + s ≤ placesOf r - binaryOf t r)) ⊎ ((messageOf t < x .place + s) × (x .place + s ≤ messageOf t + binaryOf t r)))
+
+abbrev pub AllMeant : ℕ → ℕ → ℕ → List Outcome → Type 0
+AllMeant t r s [] = Unit {0}
+AllMeant t r s (x ∷ xs) = (x .refusal ≡ 0 → Meant t r s x) × AllMeant t r s xs

@@ -1,0 +1,52 @@
+// Records, the calls on them, and the demands. The records that calls take and give are declared here. Definitions are in specs/, theorems in
+// proofs/; there is no function here.
+
+// Which code it is, of which s places are left out, how many corrections were accepted, and what they
+// came to. The last two counts are what document 01 calls "mended binary" and "mended in pairs".
+pub struct Record {
+    pub t: u32,
+    pub r: u32,
+    pub s: u32,
+    pub words: u32,
+    pub clean: u32,
+    pub corrected_binary: u32,
+    pub corrected_pairs: u32,
+}
+
+pub struct Opened {
+    pub refusal: u32,
+    pub record: Record,
+}
+
+// `place` is 0 but with refusal 4, whose byte stands there, and where the answer is a place.
+pub struct Answer {
+    pub refusal: u32,
+    pub place: u32,
+}
+
+// The number of an element.
+pub struct ElementAnswer {
+    pub refusal: u32,
+    pub place: u32,
+    pub element: u32,
+}
+
+// Yes or no.
+pub struct TestAnswer {
+    pub refusal: u32,
+    pub place: u32,
+    pub yes: bool,
+}
+
+// What correction answers: the place that it changed, 0 for none, and the record with its counts.
+pub struct Corrected {
+    pub refusal: u32,
+    pub place: u32,
+    pub record: Record,
+}
+
+// n − s and n − t − s.
+pub struct Size {
+    pub places: u32,
+    pub message: u32,
+}

@@ -1,0 +1,119 @@
+-- `words::check::write` meets its contract: each turn writes the digit of one component. Assumes nothing.
+use borrow.Author.Needs.{needs}
+use mathlib.Core.Logic.{⊎-elim}
+use Prim.Native.Nat.{_-_}
+use native.Mathlib.Omega.{arith}
+use lib.ListN.{length-set}
+use Rattle.loops_theory.proofs.CheckWriting.{Digits, digits-start, digits-end, room-two, room-four, write-two, write-four, write-one}
+use Rattle.coding.proofs.check.write.Statement.{statement}
+use Rattle.coding.proofs.check.write.Tie as tie
+
+abbrev Inv-loop : tie.InvT-loop
+Inv-loop a b out₀ start e at₀ i₀ out at i = Digits a b e out₀ start out at i
+
+abbrev μ-loop : tie.MeasureT-loop
+μ-loop a b out₀ start e at₀ i₀ out at i = 12 - i
+
+loop-holds : tie.Need-loop-holds Inv-loop μ-loop
+loop-holds c = digits-start _ _ _ _ _ (search needs) (c .before .pre .0) (c .before .pre .1)
+
+array-read-d : tie.Need-array-read-d Inv-loop μ-loop
+array-read-d c = search needs
+
+slice-write-out : tie.Need-slice-write-out Inv-loop μ-loop
+slice-write-out c =
+    let l = c .before .before in
+    let g = l .before .before in
+    let h = room-two _ _ _ _ _ (search needs) (g .pre .0) (g .pre .1) _ _ _ (l .loop .inv) (c .before .loop-test .taken) (c .if1 .taken) in
+    h
+
+add-at : tie.Need-add-at Inv-loop μ-loop
+add-at c =
+    let l = c .before .before in
+    let g = l .before .before in
+    let h = room-two _ _ _ _ _ (search needs) (g .pre .0) (g .pre .1) _ _ _ (l .loop .inv) (c .before .loop-test .taken) (c .if1 .taken) in
+    search needs
+
+first-half-requires : tie.Need-first-half-requires Inv-loop μ-loop
+first-half-requires c κs = search needs
+
+slice-write-out-2 : tie.Need-slice-write-out-2 Inv-loop μ-loop
+slice-write-out-2 c =
+    let l = c .before .before .before .before in
+    let g = l .before .before in
+    let h = room-four _ _ _ _ _ (search needs) (g .pre .0) (g .pre .1) _ _ _ (l .loop .inv) (c .before .before .before .loop-test .taken) (c .before .before .if1 .left) (c .before .if2 .taken) in
+    omega arith
+
+second-half-requires : tie.Need-second-half-requires Inv-loop μ-loop
+second-half-requires c κs = search needs
+
+add-out : tie.Need-add-out Inv-loop μ-loop
+add-out c =
+    let l = c .before .before .before .before .before in
+    let g = l .before .before in
+    let h = room-four _ _ _ _ _ (search needs) (g .pre .0) (g .pre .1) _ _ _ (l .loop .inv) (c .before .before .before .before .loop-test .taken) (c .before .before .before .if1 .left) (c .before .before .if2 .taken) in
+    search needs
+
+slice-write-out-3 : tie.Need-slice-write-out-3 Inv-loop μ-loop
+slice-write-out-3 c =
+    let l = c .before .before .before .before .before in
+    let g = l .before .before in
+    let h = room-four _ _ _ _ _ (search needs) (g .pre .0) (g .pre .1) _ _ _ (l .loop .inv) (c .before .before .before .before .loop-test .taken) (c .before .before .before .if1 .left) (c .before .before .if2 .taken) in
+    rw length-set h
+
+add-at-2 : tie.Need-add-at-2 Inv-loop μ-loop
+add-at-2 c =
+    let l = c .before .before .before .before .before in
+    let g = l .before .before in
+    let h = room-four _ _ _ _ _ (search needs) (g .pre .0) (g .pre .1) _ _ _ (l .loop .inv) (c .before .before .before .before .loop-test .taken) (c .before .before .before .if1 .left) (c .before .before .if2 .taken) in
+    search needs
+
+add-i : tie.Need-add-i Inv-loop μ-loop
+add-i c = search needs
+
+loop-less : tie.Need-loop-less Inv-loop μ-loop
+loop-less c = search needs
+
+loop-again : tie.Need-loop-again Inv-loop μ-loop
+loop-again c =
+    let l = c .before .before in
+    let g = l .before .before in
+    let h = c .before .loop-test .taken in
+    ⊎-elim (λ w. rw (w .1, w .2) (write-two _ _ _ _ _ (search needs) (g .pre .0) (g .pre .1) _ _ _ (l .loop .inv) h (w .0 .taken)))
+    (⊎-elim
+    (λ w.
+    rw (w .4, w .5, w .3 .ensures, w .2 .ensures)
+    (write-four _ _ _ _ _ (search needs) (g .pre .0) (g .pre .1) _ _ _ (l .loop .inv) h (w .0 .left) (w .1 .taken)))
+    (λ w. rw (w .2, w .3) (write-one _ _ _ _ _ (search needs) (g .pre .0) (g .pre .1) _ _ _ (l .loop .inv) h (w .0 .left) (w .1 .left))))
+    (c .if1 .came)
+
+same-length : tie.Need-same-length Inv-loop μ-loop
+same-length c = c .before .loop .inv .wide
+
+returns : tie.Need-returns Inv-loop μ-loop
+returns c =
+    let l = c .before in
+    let g = l .before .before in
+    digits-end _ _ _ _ _ (search needs) (g .pre .0) (g .pre .1) _ _ _ (l .loop .inv) (c .loop-test .left)
+
+pub write-spec : {M : Type 1} → statement M
+write-spec =
+    tie.close
+    (tie.spec
+    Inv-loop
+    μ-loop
+    loop-holds
+    array-read-d
+    slice-write-out
+    add-at
+    first-half-requires
+    slice-write-out-2
+    second-half-requires
+    add-out
+    slice-write-out-3
+    add-at-2
+    add-i
+    loop-less
+    loop-again
+    same-length
+    returns)

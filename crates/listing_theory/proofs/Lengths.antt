@@ -1,0 +1,53 @@
+-- How long the parts of a sheet can be, which keeps a position from wrapping, and the lines of the places one by one.
+-- Assumes nothing.
+use mathlib.Core.Path.{_≡_, ap}
+use mathlib.Core.List.{List, _++_, append-nil, append-assoc}
+use Prim.Native.Nat.{ℕ, zero, suc, _+_, _*_, _≤_}
+use native.Mathlib.Numerals.{add-one}
+use native.Mathlib.Omega.{arith}
+use lib.ListN.{length, length-append}
+use Rattle.coder_theory.specs.Calls.{elementAnswer, wordLength, messageLength}
+use Rattle.coder_theory.specs.declared.Record.{Record}
+use Rattle.listing_theory.specs.Puts.{Puts}
+use Rattle.listing_theory.specs.Sheet.{fieldText, headingText, placeLine, placeLines}
+use Rattle.listing_theory.proofs.Decimals.{decimal-length}
+
+field-length : (x end : ℕ) → length (fieldText x end) ≤ 11
+unfolding fieldText
+field-length x end = simp length-append (omega (arith, decimal-length x))
+
+pub puts-field : {o o' : List ℕ} {at n : ℕ} (x end : ℕ) → Puts o at (fieldText x end) o' n → n ≤ at + 11
+puts-field x end p = omega (arith, p .next, field-length x end)
+
+line-length : (rec : Record) (p : ℕ) → length (placeLine rec p) ≤ 22
+unfolding placeLine
+line-length rec p =
+    simp length-append (omega (arith, field-length p 32, field-length (elementAnswer rec p .element) 10))
+
+pub lines-length : (rec : Record) (p count : ℕ) → length (placeLines rec p count) ≤ 22 * count
+unfolding placeLines
+lines-length rec p zero = omega arith
+lines-length rec p (suc count) =
+    let i = lines-length rec (p + 1) count in
+    simp length-append (omega (arith, line-length rec p))
+
+last-line : (rec : Record) (p k : ℕ) → placeLines rec p (suc k) ≡ placeLines rec p k ++ placeLine rec (p + k)
+unfolding placeLines
+last-line rec p zero = let e : p + 0 ≡ p = omega arith in rw e (append-nil (placeLine rec p))
+last-line rec p (suc k) =
+    let e : p + suc k ≡ p + 1 + k = omega arith in
+    rw (e, append-assoc) (ap (λ (l : List ℕ). placeLine rec p ++ l) (last-line rec (p + 1) k))
+
+-- the line of one place more comes last
+pub lines-last : (rec : Record) (p k : ℕ) → placeLines rec p (k + 1) ≡ placeLines rec p k ++ placeLine rec (p + k)
+lines-last rec p k = rw (add-one k) (last-line rec p k)
+
+heading-length : (rec : Record) → length (headingText rec) ≤ 49
+unfolding headingText
+heading-length rec =
+    simp length-append
+    (omega (arith, field-length (rec .t) 32, field-length (rec .r) 32, field-length (wordLength rec) 32, field-length (messageLength rec) 10))
+
+-- a heading ends early enough for the lines of a word's places
+pub puts-heading : {o o' : List ℕ} {n : ℕ} (rec : Record) → Puts o 0 (headingText rec) o' n → n ≤ 49
+puts-heading rec p = omega (arith, p .next, heading-length rec)

@@ -1,0 +1,157 @@
+-- What the whole code's functions answer of filled words, and what is handed on of their outputs. Assumes nothing.
+use mathlib.Core.Path.{_≡_, refl, sym, ap, ap₂, _∙_}
+use mathlib.Core.List.{List, [], _∷_, _++_, append-nil, append-assoc}
+use Prim.Native.Nat.{ℕ, zero, suc, _+_, _-_, _^_, _<_, _≤_}
+use native.Mathlib.Numerals.{add-one}
+use native.Mathlib.Omega.{arith}
+use borrow.Author.Tests.{eq-eqb, le-leb}
+use lib.ListN.{length, take, drop, getD, set, length-set, length-append, length-drop}
+use lib.Pow.{pow-mono}
+use lib.Seq.{take-at, drop-append-le, take-suc, take-suc-set, take-length}
+use Rattle.group_theory.specs.Group.{Modulus, negative}
+use Rattle.group_theory.proofs.Laws.{valid-negative}
+use Rattle.layout_theory.specs.Parameters.{longest, Admitted, placesOf, messageOf, moduliFor}
+use Rattle.layout_theory.specs.Layout.{message, units, slots, places}
+use Rattle.layout_theory.proofs.Cover.{places-append}
+use Rattle.layout_theory.proofs.Parameters.{admitted-admits, length-for}
+use Rattle.folds_theory.specs.Folds.{room}
+use Rattle.words_theory.specs.Words.{zeroWord}
+use Rattle.words_theory.specs.Words as words
+use Rattle.words_theory.specs.Syndrome.{syndromeOver}
+use Rattle.words_theory.specs.Coding.{checkDigits}
+use Rattle.words_theory.specs.Coding as coding
+use Rattle.words_theory.specs.Calls as calls
+use Rattle.words_theory.specs.Claims.{messageLengthOf}
+use Rattle.words_theory.proofs.Reading.{reads-length}
+use Rattle.words_theory.proofs.Encoding.{check-reads}
+use Rattle.words_theory.proofs.OtherHalf.{length-inverse}
+use Rattle.words_theory.proofs.Theorem.{length-message-code}
+use Rattle.shortened_theory.specs.Code.{fill, shortenedSyndrome, shortenedEncode, shortenedCombine, shortenedInverse}
+use Rattle.shortened_theory.specs.Calls.{Fits}
+use Rattle.shortened_theory.proofs.Filling.{length-fill}
+use Rattle.loops_theory.proofs.PlaceSums.{length-combine}
+
+-- ---- there is room for the filled word
+pub places-room : (t r : ℕ) → Admitted t r → placesOf t ≤ room
+places-room t r ok = let q : 2 ^ t ≤ 2 ^ longest = pow-mono {i = t} {j = longest} (ok .most) in omega arith
+
+pub word-room : (t r s k : ℕ) → Fits t r s (placesOf t) k → s + k ≤ room
+word-room t r s k f = let q = places-room t r (f .admitted) in let a = f .all in omega arith
+
+pub message-room : (t r s k : ℕ) → Fits t r s (messageOf t) k → s + k ≤ room
+message-room t r s k f = let q = places-room t r (f .admitted) in let a = f .all in omega arith
+
+-- ---- a loop that copies i bytes of w to the places from index s on
+pub record Copied (s : ℕ) (w v : List ℕ) (i : ℕ) : Type 0 where
+  pub within : i ≤ length w
+  pub wide : length v ≡ room
+  pub bytes : take (s + i) v ≡ fill s (take i w)
+
+pub take-zeros : (s n : ℕ) → s ≤ n → take s (zeroWord n) ≡ zeroWord s
+take-zeros zero n h = refl
+take-zeros (suc s) zero h = absurd (omega arith)
+take-zeros (suc s) (suc n) h = ap {B = List ℕ} (λ (t : List ℕ). 0 ∷ t) (take-zeros s n (omega arith))
+
+pub copy-start : (s : ℕ) (w v : List ℕ) → length v ≡ room → take s v ≡ zeroWord s → Copied s w v 0
+copy-start s w v l e =
+    let z : s + 0 ≡ s = omega arith in
+    record { within = omega arith; wide = l; bytes = ap (λ (k : ℕ). take k v) z ∙ e ∙ sym (append-nil (zeroWord s)) }
+
+pub copy-step : (s : ℕ) (w v : List ℕ) (i b : ℕ) → Copied s w v i → i < length w → s + length w ≤ room → b ≡ getD w i 0
+    → Copied s w (set v (s + i) b) (i + 1)
+copy-step s w v i b c h l e =
+    let n = c .wide in
+    let z : s + (i + 1) ≡ suc (s + i) = omega arith in
+    record {
+      within = omega arith;
+      wide = simp length-set (c .wide);
+      bytes = ap (λ (k : ℕ). take k (set v (s + i) b)) z
+          ∙ take-suc-set v (s + i) b (omega arith)
+          ∙ ap (λ (x : List ℕ). x ++ (b ∷ [])) (c .bytes)
+          ∙ append-assoc (zeroWord s) (take i w) (b ∷ [])
+          ∙ ap (fill s)
+          (ap (λ (k : ℕ). take i w ++ (k ∷ [])) e ∙ sym (take-suc w i 0 h) ∙ ap (λ (k : ℕ). take k w) (sym (add-one i)));
+    }
+
+pub copy-end : (s : ℕ) (w v : List ℕ) (i : ℕ) → Copied s w v i → length w ≤ i → take (s + length w) v ≡ fill s w
+copy-end s w v i c h =
+    let k = c .within in
+    let e : length w ≡ i = omega arith in
+    ap (λ (n : ℕ). take (s + n) v) e ∙ c .bytes ∙ ap (fill s) (ap (λ (n : ℕ). take n w) (sym e) ∙ take-length w)
+
+-- ---- the syndrome and the place at fault
+module _ (t r s : ℕ) (w : List ℕ) (f : Fits t r s (placesOf t) (length w)) where
+  pub long : placesOf t ≤ length (fill s w)
+  long = let a = f .all in let l = length-fill s w in omega arith
+
+  pub syndrome-filled : calls.syndromeFor t r (fill s w) ≡ shortenedSyndrome (moduliFor t r) s w
+  unfolding calls.syndromeFor shortenedSyndrome
+  syndrome-filled = rw (admitted-admits t r (f .admitted), le-leb (placesOf t) (length (fill s w)) long)
+
+  pub fault-filled : calls.faultFor t r (fill s w) ≡ calls.fault (moduliFor t r) (fill s w)
+  unfolding calls.faultFor
+  fault-filled = rw (admitted-admits t r (f .admitted), le-leb (placesOf t) (length (fill s w)) long)
+
+-- ---- outputs: the whole code's n bytes, of which the first s are not handed on
+pub handed : (n s : ℕ) (new rest out : List ℕ) → s ≤ n → length new ≡ n → n - s ≤ length out
+    → calls.flipFor (take (n - s) (drop s (new ++ rest))) 0 out ≡ drop s new ++ drop (n - s) out
+unfolding calls.flipFor
+handed n s new rest out i l h =
+    let k : length (drop s new) ≡ n - s = length-drop s new ∙ ap (λ (m : ℕ). m - s) l in
+    rw (drop-append-le s new rest (omega arith), take-at (drop s new) rest (n - s) k, k, le-leb (n - s) (length out) h)
+
+length-encode : (ms : List Modulus) (m : List ℕ) → length m ≡ messageLengthOf ms → length (coding.encode ms m) ≡ length (places ms (slots ms))
+unfolding coding.encode slots
+length-encode ms m l =
+    let e = negative ms (syndromeOver ms (message ms) m) in
+    let c = reads-length ms (check-reads ms e (valid-negative ms (syndromeOver ms (message ms) m))) in
+    length-append m (checkDigits ms e)
+    ∙ ap₂ _+_ l c
+    ∙ sym (length-append (places ms (message ms)) (places ms (units ms)))
+    ∙ ap length (sym (places-append ms (message ms) (units ms)))
+
+module _ (t r s n : ℕ) (ok : Admitted t r) (is : n ≡ placesOf t) (few : s ≤ placesOf t) (z code out new : List ℕ) (wide : length z ≡ room)
+    (h : placesOf t - s ≤ length out) (given : new ≡ calls.flipFor (take (n - s) (drop s code)) 0 out) where
+  enough : placesOf t ≤ length z
+  enough = let q = places-room t r ok in omega arith
+
+  handed-on : (x : List ℕ) → length x ≡ placesOf t → code ≡ x ++ drop (placesOf t) z → new ≡ drop s x ++ drop (placesOf t - s) out
+  handed-on x l e =
+      given
+      ∙ ap₂ (λ (k : ℕ) (v : List ℕ). calls.flipFor (take (k - s) (drop s v)) 0 out) is e
+      ∙ handed (placesOf t) s x (drop (placesOf t) z) out few l h
+
+  pub encode-handed : (m whole : List ℕ) → Fits t r s (messageOf t) (length m) → code ≡ calls.encodeFor t r whole z → whole ≡ fill s m
+      → new ≡ shortenedEncode (moduliFor t r) s m ++ drop (placesOf t - s) out
+  unfolding shortenedEncode calls.encodeFor
+  encode-handed m whole f d g =
+      let e : code ≡ calls.encodeFor t r (fill s m) z = d ∙ ap (λ (x : List ℕ). calls.encodeFor t r x z) g in
+      let k : length (fill s m) ≡ messageOf t = length-fill s m ∙ f .all in
+      handed-on (coding.encode (moduliFor t r) (fill s m))
+      (length-encode (moduliFor t r) (fill s m) (k ∙ sym (length-message-code t r ok)) ∙ length-for t r ok)
+      (e ∙ rw (admitted-admits t r ok, eq-eqb (length (fill s m)) (messageOf t) k, le-leb (placesOf t) (length z) enough))
+
+  -- both are filled in arrays, of which the first i bytes and the first j are the words
+  pub combine-handed : (x y whole second : List ℕ) (i j : ℕ) → Fits t r s (placesOf t) (length x) → Fits t r s (placesOf t) (length y) → i ≡ j
+      → code ≡ calls.combineFor t r whole (take i second) z → whole ≡ fill s x → take j second ≡ fill s y → new ≡ shortenedCombine (moduliFor t r) s x y ++ drop (placesOf t - s) out
+  unfolding shortenedCombine calls.combineFor
+  combine-handed x y whole second i j f g q d a b =
+      let e : code ≡ calls.combineFor t r (fill s x) (fill s y) z =
+      d ∙ ap₂ (λ (u v : List ℕ). calls.combineFor t r u v z) a (ap (λ (k : ℕ). take k second) q ∙ b) in
+      handed-on (words.combine (slots (moduliFor t r)) (fill s x) (fill s y))
+      (length-combine (moduliFor t r) (slots (moduliFor t r)) (fill s x) (fill s y) ∙ length-for t r ok)
+      (e ∙ rw (
+        admitted-admits t r ok,
+        le-leb (placesOf t) (length (fill s x)) (long t r s x f),
+        le-leb (placesOf t) (length (fill s y)) (long t r s y g),
+        le-leb (placesOf t) (length z) enough,
+      ))
+
+  pub invert-handed : (w whole : List ℕ) → Fits t r s (placesOf t) (length w)
+      → code ≡ calls.invertFor t r whole z → whole ≡ fill s w → new ≡ shortenedInverse (moduliFor t r) s w ++ drop (placesOf t - s) out
+  unfolding shortenedInverse calls.invertFor
+  invert-handed w whole f d g =
+      let e : code ≡ calls.invertFor t r (fill s w) z = d ∙ ap (λ (x : List ℕ). calls.invertFor t r x z) g in
+      handed-on (words.inverse (slots (moduliFor t r)) (fill s w))
+      (length-inverse (moduliFor t r) (slots (moduliFor t r)) (fill s w) ∙ length-for t r ok)
+      (e ∙ rw (admitted-admits t r ok, le-leb (placesOf t) (length (fill s w)) (long t r s w f), le-leb (placesOf t) (length z) enough))

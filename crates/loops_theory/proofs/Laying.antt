@@ -1,0 +1,450 @@
+-- For the loops that lay the message out as weights: weights in a row, and the segments between two units. Assumes nothing.
+use mathlib.Core.Path.{_≡_, refl, sym, ap, ap₂, subst, _∙_}
+use mathlib.Core.Bool.{Bool, true, false}
+use mathlib.Core.List.{List, [], _∷_, _++_, append-assoc, append-nil}
+use Prim.Native.Nat.{ℕ, zero, suc, _+_, _-_, _*_, _%_, _^_, _<_, _≤_}
+use native.Mathlib.Nat.{pow-succ', mod-eq-of-lt}
+use native.Mathlib.Numerals.{add-one}
+use native.Mathlib.Omega.{arith}
+use lib.Bits.{bitAnd, and-mask, and-zero-r}
+use lib.Dec.{eqb}
+use lib.ListN.{length, take, drop, getD, set, length-set}
+use lib.Seq.{take-suc, take-suc-set, take-all, take-set-le, getD-drop, getD-set-same, drop-drop}
+use Rattle.group_theory.specs.Group.{moduli, hd, tl, size}
+use Rattle.layout_theory.specs.Choice.{pick}
+use Rattle.layout_theory.specs.Layout.{from, singles, pairs}
+use Rattle.blocks_theory.specs.Blocks as blocks
+use Rattle.blocks_theory.specs.Blocks.{level, plusTo, evenTo}
+use Rattle.blocks_theory.proofs.Levels.{plus-next, even-next, even-first, level-counts, plus-none}
+use Rattle.blocks_theory.proofs.Splits.{pair-counts, plus-rises, pow-pos, pow-rises, even-power, message-counts}
+use Rattle.folds_theory.specs.Folds.{widest, room}
+use Rattle.folds_theory.proofs.Levelling.{twelve}
+use Rattle.folds_theory.proofs.Wholes.{size-room}
+use Rattle.words_theory.specs.Digits.{digit}
+use Rattle.words_theory.proofs.Combining.{digit-lt}
+use Rattle.loops_theory.specs.Spread.{widthOf, spread, row, HoldsMessage}
+use Rattle.loops_theory.proofs.Segments.{pair-segment, low-segment, even-segment, spread-zero, spread-none}
+
+-- ---- weights in a row, by index
+pub length-row : (p : Bool) (n : ℕ) (w : List ℕ) → length (row p n w) ≡ widthOf p * n
+unfolding row
+length-row true zero w = refl
+length-row false zero w = refl
+length-row true (suc n) w = let i = length-row true n (tl (tl w)) in omega arith
+length-row false (suc n) w = let i = length-row false n (tl w) in omega arith
+
+getD-tl : (w : List ℕ) (i : ℕ) → getD (tl w) i 0 ≡ getD w (suc i) 0
+getD-tl [] i = refl
+getD-tl (x ∷ w) i = refl
+
+hd-getD : (w : List ℕ) → hd w ≡ getD w 0 0
+hd-getD [] = refl
+hd-getD (x ∷ w) = refl
+
+pub byte-at : (n i : ℕ) (w : List ℕ) → i < n → getD (row false n w) i 0 ≡ getD w i 0
+unfolding row
+byte-at zero i w h = absurd (omega arith)
+byte-at (suc n) zero w h = hd-getD w
+byte-at (suc n) (suc i) w h = byte-at n i (tl w) (omega arith) ∙ getD-tl w i
+
+abbrev neighbours : List ℕ → ℕ → ℕ
+neighbours w i = pick (eqb (i % 2) 0) (digit (getD w i 0) (getD w (i + 1) 0)) 0
+
+pub digit-at : (n i : ℕ) (w : List ℕ) → i < 2 * n → getD (row true n w) i 0 ≡ neighbours w i
+unfolding row
+digit-at zero i w h = absurd (omega arith)
+digit-at (suc n) zero w h = ap₂ digit (hd-getD w) (hd-getD (tl w) ∙ getD-tl w 0)
+digit-at (suc n) (suc zero) w h = refl
+digit-at (suc n) (suc (suc i)) w h =
+    let e : suc (suc i) % 2 ≡ i % 2 = omega arith in
+    let a : suc (suc (i + 1)) ≡ suc (suc i) + 1 = omega arith in
+    digit-at n i (tl (tl w)) (omega arith)
+    ∙ ap₂ (λ (x y : ℕ). pick (eqb (i % 2) 0) (digit x y) 0) (getD-tl (tl w) i ∙ getD-tl w (suc i)) (getD-tl (tl w) (i + 1) ∙ getD-tl w (suc (i + 1)) ∙ ap (λ (k : ℕ). getD w k 0) a)
+    ∙ ap (λ (k : ℕ). pick (eqb k 0) (digit (getD w (suc (suc i)) 0) (getD w (suc (suc i) + 1) 0)) 0) (sym e)
+
+-- ---- a loop that writes the first i of g behind the first k of v₀
+pub record Copying (g v₀ : List ℕ) (k n : ℕ) (v : List ℕ) (i : ℕ) : Type 0 where
+  pub within : i ≤ n
+  pub enough : n ≤ length g
+  pub same : length v ≡ length v₀
+  pub fits : k + n ≤ length v₀
+  pub front : take (k + i) v ≡ take k v₀ ++ take i g
+
+pub copy-start : (g v : List ℕ) (k n : ℕ) → k + n ≤ length v → n ≤ length g → Copying g v k n v 0
+copy-start g v k n h l =
+    let e : k + 0 ≡ k = omega arith in
+    record { within = omega arith; enough = l; same = refl; fits = h; front = rw e (sym (append-nil (take k v))) }
+
+pub copy-step : (g v₀ : List ℕ) (k n : ℕ) (v : List ℕ) (i x : ℕ) → Copying g v₀ k n v i → i < n → x ≡ getD g i 0 → Copying g v₀ k n (set v (k + i) x) (i + 1)
+copy-step g v₀ k n v i x f h e =
+    let s = f .same in
+    let l = f .fits in
+    let m = f .enough in
+    let a : k + (i + 1) ≡ suc (k + i) = omega arith in
+    record {
+      within = omega arith;
+      enough = m;
+      same = length-set v (k + i) x ∙ s;
+      fits = l;
+      front = ap (λ (z : ℕ). take z (set v (k + i) x)) a ∙ take-suc-set v (k + i) x (omega arith)
+          ∙ ap₂ (λ (r : List ℕ) (z : ℕ). r ++ (z ∷ [])) (f .front) e
+          ∙ append-assoc (take k v₀) (take i g) (getD g i 0 ∷ [])
+          ∙ ap (λ (r : List ℕ). take k v₀ ++ r) (sym (take-suc g i 0 (omega arith)) ∙ ap (λ (z : ℕ). take z g) (sym (add-one i)));
+    }
+
+pub copy-done : (g v₀ : List ℕ) (k n : ℕ) (v : List ℕ) (i : ℕ) → Copying g v₀ k n v i → n ≤ i → take (k + n) v ≡ take k v₀ ++ take n g
+copy-done g v₀ k n v i f h =
+    let a = f .within in
+    let z : i ≡ n = omega arith in
+    ap (λ (j : ℕ). take (k + j) v) (sym z) ∙ f .front ∙ ap (λ (j : ℕ). take k v₀ ++ take j g) z
+
+-- what the two loops write
+pub byte-write : (w : List ℕ) (at n i : ℕ) → i < n → getD w (at + i) 0 ≡ getD (row false n (drop at w)) i 0
+byte-write w at n i h = sym (byte-at n i (drop at w) h ∙ getD-drop at w i 0)
+
+pub digit-write : (w : List ℕ) (at n i : ℕ) → i < 2 * n → pick (eqb (i % 2) 0) (digit (getD w (at + i) 0) (getD w (at + i + 1) 0)) 0 ≡ getD (row true n (drop at w)) i 0
+digit-write w at n i h =
+    let a : at + (i + 1) ≡ at + i + 1 = omega arith in
+    sym (digit-at n i (drop at w) h
+    ∙ ap₂ (λ (x y : ℕ). pick (eqb (i % 2) 0) (digit x y) 0) (getD-drop at w i 0) (getD-drop at w (i + 1) 0 ∙ ap (λ (k : ℕ). getD w k 0) a))
+
+pub digit-wrote : (w : List ℕ) (at n i d x : ℕ) → x ≡ pick (eqb (i % 2) 0) (d % 4) 0 → d ≡ digit (getD w (at + i) 0) (getD w (at + i + 1) 0) → i < 2 * n - 1
+    → x ≡ getD (row true n (drop at w)) i 0
+digit-wrote w at n i d x e f h =
+    let l = digit-lt (getD w (at + i) 0) (getD w (at + i + 1) 0) in
+    e ∙ ap (λ (y : ℕ). pick (eqb (i % 2) 0) y 0) (ap (λ (y : ℕ). y % 4) f ∙ mod-eq-of-lt l) ∙ digit-write w at n i (omega arith)
+
+-- the mask that keeps every other digit
+pub masked : (d o : ℕ) → o < 2 → bitAnd d (3 - 3 * o) ≡ pick (eqb o 0) (d % 4) 0
+masked d zero k = and-mask d 2
+masked d (suc zero) k = and-zero-r d
+masked d (suc (suc o)) k = absurd (omega arith)
+
+pub bytes-done : (w v₀ : List ℕ) (at k n : ℕ) (v : List ℕ) (i : ℕ) → Copying (row false n (drop at w)) v₀ k n v i → n ≤ i → take (k + n) v ≡ take k v₀ ++ row false n (drop at w)
+bytes-done w v₀ at k n v i f h =
+    let l = length-row false n (drop at w) in
+    copy-done (row false n (drop at w)) v₀ k n v i f h ∙ ap (λ (r : List ℕ). take k v₀ ++ r) (take-all n (row false n (drop at w)) (omega arith))
+
+-- ---- one segment: of pairs, and of singles
+unit-cleared : (v : List ℕ) (p : ℕ) → 2 * p + 2 ≤ length v → take (2 * p + (2 + 2 * 0)) (set (set v (2 * p) 0) (2 * p + 1) 0) ≡ take (2 * p) v ++ 0 ∷ 0 ∷ []
+unit-cleared v p h =
+    let a : 2 * p + (2 + 2 * 0) ≡ suc (suc (2 * p)) = omega arith in
+    let b : 2 * p + 1 ≡ suc (2 * p) = omega arith in
+    let l = length-set v (2 * p) 0 in
+    ap₂ (λ (i j : ℕ). take i (set (set v (2 * p) 0) j 0)) a b
+    ∙ take-suc-set (set v (2 * p) 0) (suc (2 * p)) 0 (omega arith)
+    ∙ ap (λ (r : List ℕ). r ++ (0 ∷ [])) (take-suc-set v (2 * p) 0 (omega arith))
+    ∙ append-assoc (take (2 * p) v) (0 ∷ []) (0 ∷ [])
+
+segment-written : (v u w : List ℕ) (p n at : ℕ) → 0 < n → 2 * p + (2 + 2 * n) ≤ length v → length u ≡ length v
+    → take (2 * p + 2 + (2 * n - 1)) u ≡ take (2 * p + 2) (set (set v (2 * p) 0) (2 * p + 1) 0) ++ take (2 * n - 1) (row true n (drop at w))
+    → take (2 * p + (2 + 2 * n)) (set u (2 * p + 1 + 2 * n) 0) ≡ take (2 * p) v ++ 0 ∷ 0 ∷ row true n (drop at w)
+segment-written v u w p n at h l m e =
+    let g = row true n (drop at w) in
+    let lg : length g ≡ 2 * n = length-row true n (drop at w) in
+    let a : 2 * p + (2 + 2 * n) ≡ suc (2 * p + 1 + 2 * n) = omega arith in
+    let b : 2 * p + 1 + 2 * n ≡ 2 * p + 2 + (2 * n - 1) = omega arith in
+    let c : 2 * p + 2 ≡ 2 * p + (2 + 2 * 0) = omega arith in
+    let d : suc (2 * n - 1) ≡ 2 * n = omega arith in
+    let o : getD g (2 * n - 1) 0 ≡ 0 =
+    digit-at n (2 * n - 1) (drop at w) (omega arith) ∙ ap (λ (k : ℕ). pick (eqb k 0) (digit (getD (drop at w) (2 * n - 1) 0) (getD (drop at w) (2 * n - 1 + 1) 0)) 0) (odd n h) in
+    let q : take (2 * n - 1) g ++ (0 ∷ []) ≡ g =
+    ap (λ (k : ℕ). take (2 * n - 1) g ++ (k ∷ [])) (sym o) ∙ sym (take-suc g (2 * n - 1) 0 (omega arith)) ∙ ap (λ (k : ℕ). take k g) d ∙ take-all (2 * n) g (omega arith) in
+    ap (λ (k : ℕ). take k (set u (2 * p + 1 + 2 * n) 0)) a
+    ∙ take-suc-set u (2 * p + 1 + 2 * n) 0 (omega arith)
+    ∙ ap (λ (k : ℕ). take k u ++ (0 ∷ [])) b
+    ∙ ap (λ (r : List ℕ). r ++ (0 ∷ [])) (e ∙ ap (λ (k : ℕ). take k (set (set v (2 * p) 0) (2 * p + 1) 0) ++ take (2 * n - 1) g) c ∙ ap (λ (r : List ℕ). r ++ take (2 * n - 1) g) (unit-cleared v p (omega arith)))
+    ∙ append-assoc (take (2 * p) v ++ 0 ∷ 0 ∷ []) (take (2 * n - 1) g) (0 ∷ [])
+    ∙ ap (λ (r : List ℕ). (take (2 * p) v ++ 0 ∷ 0 ∷ []) ++ r) q
+    ∙ append-assoc (take (2 * p) v) (0 ∷ 0 ∷ []) g
+  where
+    odd : (n : ℕ) → 0 < n → (2 * n - 1) % 2 ≡ 1
+    odd n h = omega arith
+
+single-written : (v u w : List ℕ) (k n at : ℕ) → k < length v → take (k + 1 + n) u ≡ take (k + 1) (set v k 0) ++ row false n (drop at w)
+    → take (k + (1 + n)) u ≡ take k v ++ 0 ∷ row false n (drop at w)
+single-written v u w k n at h e =
+    let a : k + (1 + n) ≡ k + 1 + n = omega arith in
+    ap (λ (i : ℕ). take i u) a ∙ e
+    ∙ ap (λ (r : List ℕ). r ++ row false n (drop at w)) (ap (λ (i : ℕ). take i (set v k 0)) (add-one k) ∙ take-suc-set v k 0 h)
+    ∙ append-assoc (take k v) (0 ∷ []) (row false n (drop at w))
+
+-- the same, as the functions leave them one after the other
+pub pairs-none : (v x y w : List ℕ) (p n at : ℕ) → n ≡ 0 → 2 * p + (2 + 2 * n) ≤ length v → x ≡ set v (2 * p) 0 → y ≡ set x (2 * p + 1) 0
+    → take (2 * p + (2 + 2 * n)) y ≡ take (2 * p) v ++ 0 ∷ 0 ∷ row true n (drop at w)
+unfolding row
+pairs-none v x y w p n at z h e f = rw (z, f, e) (unit-cleared v p (omega arith))
+
+pub pairs-some : (v x y u r w : List ℕ) (p n at : ℕ) → 0 < n → 2 * p + (2 + 2 * n) ≤ length v → x ≡ set v (2 * p) 0 → y ≡ set x (2 * p + 1) 0 → length u ≡ length y
+    → take (2 * p + 2 + (2 * n - 1)) u ≡ take (2 * p + 2) y ++ take (2 * n - 1) (row true n (drop at w)) → r ≡ set u (2 * p + 1 + 2 * n) 0
+    → take (2 * p + (2 + 2 * n)) r ≡ take (2 * p) v ++ 0 ∷ 0 ∷ row true n (drop at w)
+pairs-some v x y u r w p n at h l e f m g k =
+    let t : y ≡ set (set v (2 * p) 0) (2 * p + 1) 0 = f ∙ ap (λ (q : List ℕ). set q (2 * p + 1) 0) e in
+    let o : length u ≡ length v = m ∙ ap length t ∙ length-set (set v (2 * p) 0) (2 * p + 1) 0 ∙ length-set v (2 * p) 0 in
+    ap (take (2 * p + (2 + 2 * n))) k
+    ∙ segment-written v u w p n at h l o (g ∙ ap (λ (q : List ℕ). take (2 * p + 2) q ++ take (2 * n - 1) (row true n (drop at w))) t)
+
+pub single-done : (v x u w : List ℕ) (k n at : ℕ) → k < length v → x ≡ set v k 0 → take (k + 1 + n) u ≡ take (k + 1) x ++ row false n (drop at w)
+    → take (k + (1 + n)) u ≡ take k v ++ 0 ∷ row false n (drop at w)
+single-done v x u w k n at h e f = single-written v u w k n at h (f ∙ ap (λ (q : List ℕ). take (k + 1) q ++ row false n (drop at w)) e)
+
+-- ---- the loop of `pairs`
+pub record Pairing (a b part : ℕ) (w v : List ℕ) (p e at j : ℕ) : Type 0 where
+  pub within : j ≤ b
+  pub plusses : p ≡ plusTo a b j
+  pub evens : e ≡ evenTo a b j
+  pub place : at + 2 * j ≡ part + 2 * p
+  pub wide : length v ≡ room
+  pub front : take (2 * p) v ≡ spread true (moduli a b) (blocks.plus (level a b j)) (drop part w)
+
+-- ---- the loop of `singles`
+pub record Singling (a b start : ℕ) (w v₀ v : List ℕ) (n at i : ℕ) : Type 0 where
+  pub within : i ≤ a
+  pub power : n ≡ 2 ^ i
+  pub place : at + i + 1 ≡ n
+  pub wide : length v ≡ room
+  pub front : take (start + n) v ≡ take start v₀ ++ spread false (moduli a b) (from 0 (2 ^ i)) w
+
+-- what its next segment asks of the bytes and of the weights, and what the bytes after the last segment ask
+abbrev pub SegmentAsks : List ℕ → List ℕ → ℕ → ℕ → ℕ → Type 0
+SegmentAsks w v start n at = (0 < n) × (at + (n - 1) ≤ length w) × (start + n + (1 + (n - 1)) ≤ length v) × (length v ≤ room) × (2 * n ≤ room)
+
+abbrev pub RestAsks : List ℕ → List ℕ → ℕ → ℕ → ℕ → ℕ → Type 0
+RestAsks w v start e n at = (n ≤ e) × (at + (e - n) ≤ length w) × (start + n + (e - n) ≤ length v) × (length v ≤ room)
+
+module _ (a b count part : ℕ) (w : List ℕ) (L : HoldsMessage a b count part (length w)) where
+  components : a + b ≤ 12
+  components = twelve a b (L .few)
+
+  -- how many numbers there are
+  pub shares : (count ≡ 2 * plusTo a b b + evenTo a b b) × (part + a + 1 ≡ evenTo a b b) × (length (pairs (moduli a b)) + b ≡ plusTo a b b) × (count ≤ room)
+  shares =
+      let t = message-counts a b components in
+      let t0 = t .0 in
+      let t2 = t .2 in
+      let al = L .all in
+      let fr = L .front in
+      (omega arith, omega arith, t .1, fits (L .few) al)
+    where
+      fits : a + 2 * b ≤ widest → count ≡ size (moduli a b) → count ≤ room
+      fits h e = rw e (size-room a b h)
+
+  pub pairing-start : (v : List ℕ) (e : ℕ) → e ≡ 2 ^ a → length v ≡ room → Pairing a b part w v 0 e part 0
+  pairing-start v e h l =
+      record {
+        within = omega arith;
+        plusses = sym (ap length (plus-none a b));
+        evens = h ∙ sym (even-first a b components);
+        place = omega arith;
+        wide = l;
+        front = sym (spread-none a b components (drop part w));
+      }
+
+  -- what a segment asks
+  pub record Segment (p e at j : ℕ) : Type 0 where
+    pub next : 4 * p + e ≡ plusTo a b (suc j)
+    pub some : 0 < 3 * p + e
+    pub bytes : at + 2 * (3 * p + e - 1) ≤ length w
+    pub fits : 2 * p + (2 + 2 * (3 * p + e - 1)) ≤ room
+    pub few : e ≤ room
+
+  pub pairing-asks : (v : List ℕ) (p e at j : ℕ) → Pairing a b part w v p e at j → j < b → Segment p e at j
+  pairing-asks v p e at j f h =
+      let c = components in
+      let x = f .plusses in
+      let y = f .evens in
+      let z = f .place in
+      let n = plus-next a b c j h in
+      let m = level-counts a b c j (omega arith) .0 in
+      let k : suc j + (b - suc j) ≡ b = omega arith in
+      let r : plusTo a b (suc j) + (b - suc j) ≤ plusTo a b b =
+      subst (λ (t : ℕ). plusTo a b (suc j) + (b - suc j) ≤ plusTo a b t) k (plus-rises a b c (suc j) (b - suc j) (omega arith)) in
+      let q : 4 * p + e ≡ plusTo a b (suc j) = omega arith in
+      let u = pair-counts a b c j h in
+      let s = shares in
+      let s0 = s .0 in
+      let s2 = s .2 in
+      let s3 = s .3 in
+      let en = L .enough in
+      let fr = L .front in
+      let o : 0 < 3 * p + e = more p e (plusTo a b j) (plusTo a b (suc j)) _ q x u in
+      record {
+        next = q;
+        some = o;
+        bytes = reach p e at j (plusTo a b (suc j)) (b - suc j) (plusTo a b b) (length (singles (moduli a b))) (length (pairs (moduli a b))) q z r s2 fr en k o;
+        fits = fit p e (plusTo a b (suc j)) (b - suc j) (plusTo a b b) (evenTo a b b) q r s0 s3 o;
+        few = small p e (plusTo a b (suc j)) (b - suc j) (plusTo a b b) (evenTo a b b) q r s0 s3;
+      }
+    where
+      more : (p e x y n : ℕ) → 4 * p + e ≡ y → p ≡ x → y ≡ x + suc n → 0 < 3 * p + e
+      more p e x y n q f u = omega arith
+
+      fit : (p e y k z f : ℕ) → 4 * p + e ≡ y → y + k ≤ z → count ≡ 2 * z + f → count ≤ room → 0 < 3 * p + e → 2 * p + (2 + 2 * (3 * p + e - 1)) ≤ room
+      fit p e y k z f q r t h o = omega arith
+
+      small : (p e y k z f : ℕ) → 4 * p + e ≡ y → y + k ≤ z → count ≡ 2 * z + f → count ≤ room → e ≤ room
+      small p e y k z f q r t h = omega arith
+
+      reach : (p e at j y k z s t : ℕ) → 4 * p + e ≡ y → at + 2 * j ≡ part + 2 * p → y + k ≤ z → t + b ≡ z → part ≡ s → s + 2 * t ≤ length w → suc j + k ≡ b → 0 < 3 * p + e
+          → at + 2 * (3 * p + e - 1) ≤ length w
+      reach p e at j y k z s t q f r u g h l o = omega arith
+
+  pub pairing-step : (v : List ℕ) (p e at j : ℕ) → Pairing a b part w v p e at j → j < b → (v′ : List ℕ) → length v′ ≡ length v
+      → take (2 * p + (2 + 2 * (3 * p + e - 1))) v′ ≡ take (2 * p) v ++ 0 ∷ 0 ∷ row true (3 * p + e - 1) (drop at w)
+      → Pairing a b part w v′ (4 * p + e) (2 * e) (at + 2 * (3 * p + e - 1)) (j + 1)
+  pairing-step v p e at j f h v′ l g =
+      let c = components in
+      let s = pairing-asks v p e at j f h in
+      let x = f .plusses in
+      let y = f .evens in
+      let z = f .place in
+      let m = even-next a b c j h in
+      let q = s .next in
+      let o = s .some in
+      let J : j + 1 ≡ suc j = omega arith in
+      let n = 3 * p + e - 1 in
+      let k : 2 * p + (2 + 2 * n) ≡ 2 * (4 * p + e) = omega arith in
+      let i : n + 1 + plusTo a b j ≡ plusTo a b (suc j) = omega arith in
+      let g0 = plus-rises a b c 0 j (omega arith) in
+      let g1 : plusTo a b (0 + j) ≡ plusTo a b j = ap (plusTo a b) (zero-plus j) in
+      let g2 : j ≤ p = omega arith in
+      let o0 : 2 * p - 2 * j + 2 * j ≡ 2 * plusTo a b j = omega arith in
+      let o1 : part + (2 * p - 2 * j) ≡ at = omega arith in
+      let d : drop (2 * p - 2 * j) (drop part w) ≡ drop at w = drop-drop (2 * p - 2 * j) part w ∙ ap (λ (t : ℕ). drop t w) o1 in
+      rw J
+      (record {
+        within = omega arith;
+        plusses = q;
+        evens = omega arith;
+        place = omega arith;
+        wide = l ∙ f .wide;
+        front = ap (λ (t : ℕ). take t v′) (sym k) ∙ g
+            ∙ ap₂ (λ (r t : List ℕ). r ++ 0 ∷ 0 ∷ row true n t) (f .front) (sym d)
+            ∙ sym (pair-segment a b c j h n (2 * p - 2 * j) i o0 (drop part w));
+      })
+    where
+      zero-plus : (j : ℕ) → 0 + j ≡ j
+      zero-plus j = omega arith
+
+  pub pairing-done : (v : List ℕ) (p e at j : ℕ) → Pairing a b part w v p e at j → b ≤ j
+      → take (2 * plusTo a b b) v ≡ spread true (moduli a b) (blocks.plus (level a b b)) (drop part w)
+  pairing-done v p e at j f h =
+      let i = f .within in
+      let z : j ≡ b = omega arith in
+      ap (λ (t : ℕ). take (2 * t) v) (sym (f .plusses ∙ ap (plusTo a b) z)) ∙ f .front
+      ∙ ap (λ (t : ℕ). spread true (moduli a b) (blocks.plus (level a b t)) (drop part w)) z
+
+  -- ---- singles
+  pub record SinglesRoom (e start : ℕ) : Type 0 where
+    pub evens : e ≡ evenTo a b b
+    pub pairs : start ≡ 2 * plusTo a b b
+    pub whole : start + e ≡ count
+    pub fits : count ≤ room
+    pub some : 2 ^ a ≤ e
+    pub bytes : e ≤ length w + a + 1
+    pub space : start < room
+
+  pub room-for : (e start : ℕ) → e ≡ part + a + 1 → start ≡ count - e → SinglesRoom e start
+  room-for e start x y =
+      let s = shares in
+      let s0 = s .0 in
+      let s1 = s .1 in
+      let en = L .enough in
+      let fr = L .front in
+      let p = even-power a b components b (omega arith) in
+      let r = pow-rises a b components a b in
+      record { evens = omega arith; pairs = omega arith; whole = omega arith; fits = s .3; some = omega arith; bytes = omega arith; space = space s0 s1 (s .3) x y }
+    where
+      space : count ≡ 2 * plusTo a b b + evenTo a b b → part + a + 1 ≡ evenTo a b b → count ≤ room → e ≡ part + a + 1 → start ≡ count - e → start < room
+      space h k l m n = omega arith
+
+  pub singling-start : (start : ℕ) (v u : List ℕ) → length v ≡ room → start < room → u ≡ set v start 0 → Singling a b start w u u 1 0 0
+  singling-start start v u l h e =
+      let k : length u ≡ room = ap length e ∙ length-set v start 0 ∙ l in
+      record {
+        within = omega arith;
+        power = refl;
+        place = refl;
+        wide = k;
+        front = ap (λ (i : ℕ). take i u) (add-one start) ∙ take-suc u start 0 (omega arith)
+            ∙ ap (λ (x : ℕ). take start u ++ (x ∷ [])) (ap (λ (q : List ℕ). getD q start 0) e ∙ getD-set-same v start 0 0 (omega arith))
+            ∙ ap (λ (r : List ℕ). take start u ++ r) (sym (spread-zero a b components w));
+      }
+
+  pub singling-asks : (e start : ℕ) → SinglesRoom e start → (v₀ v : List ℕ) (n at i : ℕ) → Singling a b start w v₀ v n at i → i < a
+      → SegmentAsks w v start n at
+  singling-asks e start R v₀ v n at i f h =
+      let x = f .power in
+      let y = f .place in
+      let wd = f .wide in
+      let p2 = pow-succ' 2 i in
+      let k : suc i + (a - suc i) ≡ a = omega arith in
+      let r : 2 ^ suc i + (a - suc i) ≤ 2 ^ a = subst (λ (t : ℕ). 2 ^ suc i + (a - suc i) ≤ 2 ^ t) k (pow-rises a b components (suc i) (a - suc i)) in
+      let p = pow-pos a b components i in
+      let ro = R .whole in
+      let rf = R .fits in
+      let rs = R .some in
+      let rb = R .bytes in
+      go n at i (2 ^ suc i) (a - suc i) (2 ^ a) (omega arith) y k r ro rf rs rb (omega arith) wd
+    where
+      go : (n at i q k z : ℕ) → q ≡ 2 * n → at + i + 1 ≡ n → suc i + k ≡ a → q + k ≤ z → start + e ≡ count → count ≤ room → z ≤ e → e ≤ length w + a + 1 → 0 < n → length v ≡ room
+          → SegmentAsks w v start n at
+      go n at i q k z x y l r ro rf rs rb p wd = (p, omega arith, omega arith, omega arith, omega arith)
+
+  pub singling-step : (e start : ℕ) → SinglesRoom e start → (v₀ v : List ℕ) (n at i : ℕ) → Singling a b start w v₀ v n at i → i < a → (v′ : List ℕ) → length v′ ≡ length v
+      → take (start + n + (1 + (n - 1))) v′ ≡ take (start + n) v ++ 0 ∷ row false (n - 1) (drop at w)
+      → Singling a b start w v₀ v′ (2 * n) (at + (n - 1)) (i + 1)
+  singling-step e start R v₀ v n at i f h v′ l g =
+      let x = f .power in
+      let y = f .place in
+      let p = pow-pos a b components i in
+      let p2 = pow-succ' 2 i in
+      let J : i + 1 ≡ suc i = omega arith in
+      let k : start + n + (1 + (n - 1)) ≡ start + 2 * n = omega arith in
+      let d : n - 1 ≡ 2 ^ i - 1 = omega arith in
+      rw J
+      (record {
+        within = omega arith;
+        power = omega arith;
+        place = omega arith;
+        wide = l ∙ f .wide;
+        front = ap (λ (t : ℕ). take t v′) (sym k) ∙ g
+            ∙ ap₂ (λ (r : List ℕ) (t : ℕ). r ++ 0 ∷ row false t (drop at w)) (f .front) d
+            ∙ append-assoc (take start v₀) (spread false (moduli a b) (from 0 (2 ^ i)) w) (0 ∷ row false (2 ^ i - 1) (drop at w))
+            ∙ ap (λ (r : List ℕ). take start v₀ ++ r) (sym (low-segment a b components i h at (omega arith) w));
+      })
+
+  -- after the last unit
+  pub singling-end : (e start : ℕ) → SinglesRoom e start → (v₀ v : List ℕ) (n at i : ℕ) → Singling a b start w v₀ v n at i → a ≤ i
+      → RestAsks w v start e n at
+  singling-end e start R v₀ v n at i f h =
+      let wi = f .within in
+      let x = f .power in
+      let y = f .place in
+      let wd = f .wide in
+      let z : i ≡ a = omega arith in
+      let x1 : n ≡ 2 ^ a = x ∙ ap (λ (t : ℕ). 2 ^ t) z in
+      let ro = R .whole in
+      let rf = R .fits in
+      let rs = R .some in
+      let rb = R .bytes in
+      (omega arith, omega arith, omega arith, omega arith)
+
+  pub singling-done : (e start : ℕ) → SinglesRoom e start → (o v₀ v : List ℕ) (n at i : ℕ) → v₀ ≡ set o start 0 → Singling a b start w v₀ v n at i → a ≤ i → (v′ : List ℕ)
+      → take (start + n + (e - n)) v′ ≡ take (start + n) v ++ row false (e - n) (drop at w)
+      → take count v′ ≡ take (2 * plusTo a b b) o ++ spread false (moduli a b) (blocks.even (level a b b)) w
+  singling-done e start R o v₀ v n at i c f h v′ g =
+      let wi = f .within in
+      let y = f .place in
+      let z : i ≡ a = omega arith in
+      let x1 : n ≡ 2 ^ a = f .power ∙ ap (λ (t : ℕ). 2 ^ t) z in
+      let ro = R .whole in
+      let rs = R .some in
+      let re = R .evens in
+      let k : start + n + (e - n) ≡ count = omega arith in
+      let s = even-segment a b components (e - n) at (omega arith) (omega arith) w in
+      ap (λ (t : ℕ). take t v′) (sym k) ∙ g
+      ∙ ap (λ (r : List ℕ). r ++ row false (e - n) (drop at w)) (f .front ∙ ap (λ (t : ℕ). take start v₀ ++ spread false (moduli a b) (from 0 (2 ^ t)) w) z)
+      ∙ append-assoc (take start v₀) (spread false (moduli a b) (from 0 (2 ^ a)) w) (row false (e - n) (drop at w))
+      ∙ ap₂ (λ (t r : List ℕ). t ++ r) (ap (take start) c ∙ take-set-le start o start 0 (omega arith)) (sym s)
+      ∙ ap (λ (t : ℕ). take t o ++ spread false (moduli a b) (blocks.even (level a b b)) w) (R .pairs)

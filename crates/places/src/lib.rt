@@ -1,0 +1,74 @@
+// Places of a word: which one is at fault, whether it is binary or of a pair, and the third place of two;
+// and the inverse of a word, which swaps the two places of each pair. Every input is answered: 0, or
+// nothing written, where t and r are not admitted, a place is none of the code's, or a word or an output
+// is too short. What each function answers is defined in crate words_theory, specs/Calls.antt.
+mod halves;
+mod ones;
+mod place;
+
+ghost use mathlib.Core.Path.{_≡_};
+ghost use Rattle.words_theory.specs.Calls.{faultFor, widthFor, invertFor, thirdFor};
+
+// The place at fault, told from the syndrome: for a word of bits, the one that correction changes; 0
+// for a codeword, and where t and r are not admitted or the word is shorter.
+pub fn fault(t: u32, r: u32, word: &[u8]) -> u32
+    ensures { λ x. ⌜ x ≡ faultFor t r (now (word .entry)) ⌝ }
+{
+    let s = layout::shape_of(t, r);
+    let n = s.places as usize;
+    if n == 0 {
+        return 0;
+    }
+    if word.len() < n {
+        return 0;
+    }
+    let e = coding::syndrome(t, r, word);
+    place::fault_of(t, r, s, e, word)
+}
+
+// 1 for a binary place, 2 for a place of a pair; 0 where there is no such place.
+pub fn width(t: u32, r: u32, place: u32) -> u32
+    ensures { λ x. ⌜ x ≡ widthFor t r place ⌝ }
+{
+    let s = layout::shape_of(t, r);
+    let n = s.places;
+    if ones::is_place(n, place) {
+        return place::width_of(s, (place - 1) as usize);
+    }
+    0
+}
+
+// The inverse of a word, its first n bytes, written to the first n bytes of `out`.
+pub fn invert(t: u32, r: u32, word: &[u8], out: &mut [u8])
+    ensures { λ x. ⌜ now (out .exit) ≡ invertFor t r (now (word .entry)) (now (out .entry)) ⌝ }
+{
+    let s = layout::shape_of(t, r);
+    let n = s.places as usize;
+    if n == 0 {
+        return;
+    }
+    if word.len() < n {
+        return;
+    }
+    if out.len() < n {
+        return;
+    }
+    halves::swap(s, word, out);
+}
+
+// The place that makes a codeword of weight 3 with the places i and j; 0 where they are not two places
+// of the code.
+pub fn third(t: u32, r: u32, i: u32, j: u32) -> u32
+    ensures { λ x. ⌜ x ≡ thirdFor t r i j ⌝ }
+{
+    let s = layout::shape_of(t, r);
+    let n = s.places;
+    if ones::is_place(n, i) {
+        if ones::is_place(n, j) {
+            if i != j {
+                return ones::third_of(t, r, s, i, j);
+            }
+        }
+    }
+    0
+}

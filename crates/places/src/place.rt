@@ -1,0 +1,52 @@
+// One place of a word: which is at fault, the word with it flipped, and whether it is binary or of a
+// pair.
+ghost use mathlib.Core.Path.{_≡_};
+ghost use mathlib.Core.List.{_++_};
+ghost use Prim.Native.Nat.{ℕ, _-_, _<_, _≤_};
+ghost use lib.Dec.{eqb};
+ghost use lib.ListN.{length, drop};
+ghost use Rattle.group_theory.specs.Group.{moduli};
+ghost use Rattle.layout_theory.specs.Choice.{pick};
+ghost use Rattle.layout_theory.specs.Parameters.{moduliFor};
+ghost use Rattle.layout_theory.specs.Layout.{slots};
+ghost use Rattle.layout_theory.specs.Calls.{shapeFor};
+ghost use Rattle.words_theory.specs.Words as words;
+ghost use Rattle.words_theory.specs.Syndrome.{syndrome};
+ghost use Rattle.words_theory.specs.Halves.{widthAt};
+ghost use Rattle.words_theory.specs.Calls as calls;
+use crate::halves;
+use group::Element;
+use layout::Shape;
+
+// Of the two halves of a pair, the first where their bytes are equal, and else the second.
+fn half(b: u8, c: u8, i: usize, k: usize) -> usize
+    ensures { λ x. ⌜ x ≡ pick (eqb b c) i k ⌝ }
+{
+    if b == c { i } else { k }
+}
+
+// The place at fault, from the syndrome: the place of minus the syndrome, or, where the word differs
+// on the two halves of its pair, the other half.
+pub(crate) fn fault_of(t: u32, r: u32, s: Shape, e: Element, word: &[u8]) -> u32
+    requires { ⌜ (s ≡ shapeFor t r) × (0 < s .places) × (s .places ≤ length (now word)) × (e ≡ syndrome (moduliFor t r) (now word)) ⌝ }
+    ensures { λ x. ⌜ x ≡ calls.fault (moduliFor t r) (now (word .entry)) ⌝ }
+{
+    let m = group::neg(s.a, s.b, e);
+    let p = layout::place_of(t, r, m);
+    if p == 0 {
+        return 0;
+    }
+    let i = (p - 1) as usize;
+    let k = halves::other_index(s, i);
+    let j = half(word[i], word[k], i, k);
+    (j + 1) as u32
+}
+
+// How many places the slot of an index has.
+pub(crate) fn width_of(s: Shape, i: usize) -> u32
+    requires { ⌜ ((t : ℕ) × (r : ℕ) × (s ≡ shapeFor t r)) × (i < s .places) ⌝ }
+    ensures { λ x. ⌜ x ≡ widthAt (slots (moduli (s .a) (s .b))) i ⌝ }
+{
+    let k = halves::other_index(s, i);
+    if k == i { 1 } else { 2 }
+}

@@ -1,0 +1,73 @@
+-- What the public functions of this crate answer, for any t and r and any bytes: they do nothing where t and r are not admitted, a message is
+-- not of its length, or a word or an output is too short. Assumes nothing.
+use mathlib.Core.Bool.{Bool, _&&_, not}
+use mathlib.Core.Logic.{_≢_}
+use mathlib.Core.List.{List, _++_}
+use Prim.Native.Nat.{ℕ, _<_, _≤_}
+use lib.Dec.{eqb, leb}
+use lib.ListN.{length, drop}
+use Rattle.group_theory.specs.Group.{Modulus, zeros, negative}
+use Rattle.layout_theory.specs.Choice.{pick}
+use Rattle.layout_theory.specs.Parameters.{Admitted, admits, placesOf, messageOf, moduliFor}
+use Rattle.layout_theory.specs.Layout.{slots, placeOf}
+use Rattle.words_theory.specs.Words.{flip, combine, inverse}
+use Rattle.words_theory.specs.Syndrome.{syndrome}
+use Rattle.words_theory.specs.Halves.{width, moved}
+use Rattle.words_theory.specs.Coding.{encode, third}
+
+-- the syndrome of the first n bytes, or zero
+unfoldable pub syndromeFor : ℕ → ℕ → List ℕ → List ℕ
+syndromeFor t r w = pick (admits t r && leb (placesOf t) (length w)) (syndrome (moduliFor t r) w) (zeros (moduliFor t r))
+
+-- an output into which n bytes are written, the further bytes kept; or as it was
+abbrev pub written : Bool → ℕ → List ℕ → List ℕ → List ℕ
+written ok n w old = pick ok (w ++ drop n old) old
+
+unfoldable pub encodeFor : ℕ → ℕ → List ℕ → List ℕ → List ℕ
+encodeFor t r m old =
+    written (admits t r && (eqb (length m) (messageOf t) && leb (placesOf t) (length old))) (placesOf t) (encode (moduliFor t r) m) old
+
+unfoldable pub invertFor : ℕ → ℕ → List ℕ → List ℕ → List ℕ
+invertFor t r w old =
+    written (admits t r && (leb (placesOf t) (length w) && leb (placesOf t) (length old))) (placesOf t) (inverse (slots (moduliFor t r)) w) old
+
+-- the place at fault: that of minus the syndrome, moved to the other half of its pair where the word differs on the two; 0 where the syndrome
+-- is zero. For a word of bits it is the place that correction changes (`corrected-place` in proofs/Rule).
+abbrev pub fault : List Modulus → List ℕ → ℕ
+fault ms w = moved (slots ms) w (placeOf ms (negative ms (syndrome ms w)))
+
+unfoldable pub faultFor : ℕ → ℕ → List ℕ → ℕ
+faultFor t r w = pick (admits t r && leb (placesOf t) (length w)) (fault (moduliFor t r) w) 0
+
+-- a word with one place flipped, written over the front of an output that has room for it
+unfoldable pub flipFor : List ℕ → ℕ → List ℕ → List ℕ
+flipFor w p old = written (leb (length w) (length old)) (length w) (flip p w) old
+
+-- 1 for a binary place, 2 for a place of a pair, or 0
+unfoldable pub widthFor : ℕ → ℕ → ℕ → ℕ
+widthFor t r p = pick (admits t r) (width (slots (moduliFor t r)) p) 0
+
+unfoldable pub combineFor : ℕ → ℕ → List ℕ → List ℕ → List ℕ → List ℕ
+combineFor t r x y old =
+    written
+    (admits t r && (leb (placesOf t) (length x) && (leb (placesOf t) (length y) && leb (placesOf t) (length old))))
+    (placesOf t)
+    (combine (slots (moduliFor t r)) x y)
+    old
+
+-- whether p is a place of the code
+abbrev pub isPlace : ℕ → ℕ → Bool
+isPlace t p = leb 1 p && leb p (placesOf t)
+
+-- the third place, or 0 where i and j are not two places of the code
+unfoldable pub thirdFor : ℕ → ℕ → ℕ → ℕ → ℕ
+thirdFor t r i j = pick (admits t r && (isPlace t i && (isPlace t j && not (eqb i j)))) (third (moduliFor t r) i j) 0
+
+-- i and j are two places of the code
+pub record TwoPlaces (t r i j : ℕ) : Type 0 where
+  pub admitted : Admitted t r
+  pub first : 0 < i
+  pub firstMost : i ≤ placesOf t
+  pub second : 0 < j
+  pub secondMost : j ≤ placesOf t
+  pub apart : i ≢ j

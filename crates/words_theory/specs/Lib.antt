@@ -1,0 +1,10 @@
+-- Read Digits, Words, Syndrome, Halves, Coding and Calls, in this order: the Gray map, words and what is done to them place by place, the
+-- syndrome and codewords, the two halves of a pair, encoding, correction and the third place, and what the public functions answer.
+-- Claims states the theorems.
+pub mod Digits
+pub mod Words
+pub mod Syndrome
+pub mod Halves
+pub mod Coding
+pub mod Calls
+pub mod Claims
