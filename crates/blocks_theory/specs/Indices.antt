@@ -1,5 +1,5 @@
 -- What the code says of the two parts of the message: the numbers of a sign in their order, taken apart into blocks by their highest digit.
--- A device of the code; no theorem on the layout speaks of it. Assumes nothing.
+-- Assumes nothing.
 use mathlib.Core.Path.{_≡_}
 use mathlib.Core.Logic.{_⊎_}
 use mathlib.Core.List.{List, _++_}

@@ -31,7 +31,7 @@ fn unfit(record: Record) -> bool
 {
     let t = record.t;
     let r = record.r;
-    if layout::admitted(t, r) {
+    if parameters::admitted(t, r) {
         if r == 0 {
             return true;
         }
@@ -52,7 +52,7 @@ fn not_allowed(record: Record) -> bool
     let t = record.t;
     let r = record.r;
     let s = record.s;
-    if shortened::allowed(t, r, s) {
+    if parameters::allowed(t, r, s) {
         false
     } else {
         true
@@ -67,7 +67,7 @@ pub fn lengths(record: Record) -> Size
     let r = record.r;
     let s = record.s;
     if state(record) == 0 {
-        let h = layout::shape_of(t, r);
+        let h = parameters::shape_of(t, r);
         return Size {
             places: h.places - s,
             message: h.message - s,

@@ -1,9 +1,8 @@
 // The calls of document 01 on a record. Every input is answered. A refusal is a number; 0 says that the
-// call is accepted. What each call answers is defined in specs/Calls.antt; proofs/Refusals.antt has
-// the theorems on refusals. Whether a record is usable is found in fit.rt, what is wrong with a word,
-// an output or a place in check.rt; count.rt counts; the work on plain words of the shortened code is done
-// by crate shortened, a correction's flip by crate words. Demand 3, on encode, correct and combine, is
-// proofs/Demand3.antt, and its sister for shortened codes proofs/Demand3Shortened.antt.
+// call is accepted. What each call answers is defined in crate coder_theory, specs/Calls.antt; the
+// theorems on these answers, demand 3 among them, are there too. What is wrong with a call is found by
+// crate checks; count.rt counts; the work on plain words of the shortened code is done by crate
+// shortened, a correction's flip by crate coding.
 mod count;
 
 ghost use mathlib.Core.Path.{_≡_};
@@ -28,8 +27,8 @@ pub fn open(t: u32, r: u32, s: u32) -> Opened
     ensures { λ x. ⌜ x ≡ opened t r s ⌝ }
 {
     let used = in_force(t, r);
-    if layout::admitted(t, used) {
-        if shortened::allowed(t, used, s) {
+    if parameters::admitted(t, used) {
+        if parameters::allowed(t, used, s) {
             return Opened {
                 refusal: 0,
                 record: new_record(t, used, s),
@@ -51,7 +50,7 @@ pub fn element_at(record: Record, place: u32) -> ElementAnswer
     let t = record.t;
     let r = record.r;
     let s = record.s;
-    let shape = layout::shape_of(t, r);
+    let shape = parameters::shape_of(t, r);
     let a = shape.a;
     let b = shape.b;
     let n = shape.places;
@@ -103,7 +102,7 @@ pub fn syndrome(record: Record, word: &[u8]) -> ElementAnswer
     let r = record.r;
     let s = record.s;
     let e = shortened::syndrome(t, r, s, word);
-    let shape = layout::shape_of(t, r);
+    let shape = parameters::shape_of(t, r);
     ElementAnswer {
         refusal,
         place,

@@ -1,5 +1,6 @@
-// Records, the calls on them, and the demands. The records that calls take and give are declared here. Definitions are in specs/, theorems in
-// proofs/; there is no function here.
+// Theory of the calls on a record: their answers and refusals, and the three demands. The records
+// that calls take and give are declared here. Definitions are in specs/, theorems in proofs/; there
+// is no function here.
 
 // Which code it is, of which s places are left out, how many corrections were accepted, and what they
 // came to. The last two counts are what document 01 calls "mended binary" and "mended in pairs".

@@ -15,7 +15,7 @@ use group::Element;
 pub fn syndrome(t: u32, r: u32, word: &[u8]) -> Element
     ensures { λ x. ⌜ x ≡ syndromeFor t r (now (word .entry)) ⌝ }
 {
-    let s = layout::shape_of(t, r);
+    let s = parameters::shape_of(t, r);
     let a = s.a;
     let b = s.b;
     let places = s.places as usize;
@@ -38,7 +38,7 @@ pub fn syndrome(t: u32, r: u32, word: &[u8]) -> Element
 pub fn encode(t: u32, r: u32, message: &[u8], out: &mut [u8])
     ensures { λ x. ⌜ now (out .exit) ≡ encodeFor t r (now (message .entry)) (now (out .entry)) ⌝ }
 {
-    let s = layout::shape_of(t, r);
+    let s = parameters::shape_of(t, r);
     let a = s.a;
     let b = s.b;
     let places = s.places as usize;

@@ -10,7 +10,7 @@ ghost use Rattle.words_theory.specs.Calls.{combineFor};
 pub fn combine(t: u32, r: u32, first: &[u8], second: &[u8], out: &mut [u8])
     ensures { λ x. ⌜ now (out .exit) ≡ combineFor t r (now (first .entry)) (now (second .entry)) (now (out .entry)) ⌝ }
 {
-    let s = layout::shape_of(t, r);
+    let s = parameters::shape_of(t, r);
     let count = s.places as usize;
     if count == 0 {
         return;

@@ -9,7 +9,7 @@ ghost use Rattle.layout_theory.specs.Layout.{slots};
 ghost use Rattle.layout_theory.specs.Calls.{shapeFor};
 ghost use Rattle.words_theory.specs.Words as words;
 ghost use Rattle.loops_theory.specs.Writing.{Onward, SumsTwo, SumsFour};
-use layout::Shape;
+use layout_theory::Shape;
 
 // The sum of two bytes modulo 2, and of two digits modulo 4; no sum of the bytes themselves wraps.
 fn sum_two(b: u8, c: u8) -> u8

@@ -1,8 +1,9 @@
 // Sums of elements, each times the weight that a word has for it, without a table. The weights stand in the
-// order of specs/Folds.antt: by sign, and by rising number. In this order the numbers that have one
-// digit in their highest component are a block, so that one component after the other can be taken
-// off: what the blocks add to it is a sum of totals, and the weights that are left are sums of blocks.
-// Every loop runs over neighbouring bytes, so that the compiler makes vector code of it.
+// order of crate folds_theory, specs/Folds.antt: by sign, and by rising number. In this order the
+// numbers that have one digit in their highest component are a block, so that one component after the
+// other can be taken off: what the blocks add to it is a sum of totals, and the weights that are left
+// are sums of blocks. Every loop runs over neighbouring bytes, so that the compiler makes vector code
+// of it.
 ghost use mathlib.Core.Path.{_≡_};
 ghost use mathlib.Core.List.{_++_};
 ghost use Prim.Native.Nat.{_+_, _*_, _%_, _^_, _<_, _≤_};

@@ -33,7 +33,7 @@ weightedFor a b v =
       | false ↦ zeros (moduli a b)
     ]
 
--- ---- devices of the code
+-- ---- what one level makes of the weights
 -- n weights from an index on
 abbrev pub stretch : ℕ → ℕ → List ℕ → List ℕ
 stretch k n v = take n (drop k v)

@@ -1,4 +1,5 @@
-// The Gray map: the digit of two places, and the two places of a digit.
+// The Gray map: the digit of two places, and the two places of a digit (crate words_theory,
+// specs/Digits.antt).
 ghost use mathlib.Core.Path.{_≡_};
 ghost use mathlib.Core.List.{[]};
 ghost use Prim.Native.Nat.{_<_, _≤_};

@@ -1,7 +1,7 @@
 // Group arithmetic: elements as twelve component bytes, a of them modulo 2, the next b modulo 4, the
 // others unused and 0. Every function answers for every input: a component out of range counts by
-// its remainder. What each one means is in specs/, its laws in proofs/Laws.antt, Numbers.antt and
-// Signs.antt. Callers rely on those laws and not on how the sums are made.
+// its remainder. What each one means is in crate group_theory, specs/, its laws in proofs/Laws.antt and
+// Numbers.antt. Callers rely on those laws and not on how the sums are made.
 ghost use mathlib.Core.Path.{_≡_};
 ghost use Prim.Native.Nat.{_<_};
 ghost use lib.ListN.{getD};

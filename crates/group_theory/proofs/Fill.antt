@@ -1,4 +1,4 @@
--- For the loops of this crate: one law for a loop that fills an array from the front, the moduli by index, and each definition by
+-- For the loops of crate group: one law for a loop that fills an array from the front, the moduli by index, and each definition by
 -- index. Assumes nothing.
 use mathlib.Core.Path.{_≡_, refl, ap, sym, _∙_}
 use mathlib.Core.Bool.{Bool, _&&_}

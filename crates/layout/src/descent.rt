@@ -1,9 +1,9 @@
 // The elements of one sign in the order of their numbers: the element at an index, and the index of an
 // element. With one more quaternary component the numbers of a sign are four blocks, one for each
-// digit, of numbers without it (proofs/Blocks.antt), so the highest digit is found by comparing the
-// index with the blocks' widths, and so on down to the binary components, where all numbers have one
-// sign and the index is the number. `pairs` says which sign is meant: 1, or 0 for the elements that
-// are their own negatives.
+// digit, of numbers without it (crate blocks_theory, proofs/Blocks.antt), so the highest digit is found
+// by comparing the index with the blocks' widths, and so on down to the binary components, where all
+// numbers have one sign and the index is the number. `pairs` says which sign is meant: 1, or 0 for the
+// elements that are their own negatives.
 ghost use mathlib.Core.Path.{_≡_};
 ghost use mathlib.Core.Logic.{_⊎_};
 ghost use mathlib.Core.List.{_++_};

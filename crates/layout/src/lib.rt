@@ -1,8 +1,7 @@
-// The layout of places: which parameters are admitted, the element of a place, and the place of an
-// element. No table is kept: an element's index among those of its sign follows from its digits, and
-// the other way round (descent.rt), and the units before it are left out (skip.rt). Definitions are in
-// specs/Parameters.antt and specs/Layout.antt, the theorems on them in proofs/Places.antt and
-// proofs/Theorem.antt.
+// The layout of places: the element of a place, and the place of an element. No table is kept: an
+// element's index among those of its sign follows from its digits, and the other way round (descent.rt),
+// and the units before it are left out (skip.rt). What the two answer is defined in crate layout_theory,
+// specs/Layout.antt and Calls.antt; why the way there is right is crate blocks_theory.
 mod descent;
 mod skip;
 
@@ -12,36 +11,15 @@ ghost use Prim.Native.Nat.{_+_, _*_, _-_, _%_, _≤_, _<_, _^_};
 ghost use lib.ListN.{length, getD, set};
 ghost use Rattle.group_theory.specs.Group.{Valid, moduli, zeros, size};
 ghost use Rattle.group_theory.specs.Sign.{lead};
-ghost use Rattle.layout_theory.specs.Parameters.{admits};
 ghost use Rattle.layout_theory.specs.Layout.{singles, pairs, units, places, elementAt, placeOf};
-ghost use Rattle.layout_theory.specs.Calls.{shapeFor, elementFor, placeFor};
+ghost use Rattle.layout_theory.specs.Calls.{elementFor, placeFor};
 ghost use Rattle.layout_theory.specs.Parts.{Located};
 ghost use Rattle.blocks_theory.specs.Blocks.{plus};
 ghost use Rattle.blocks_theory.specs.Indices.{Signed, standing, Tells, AllBelow};
 use group::Element;
 pub use layout_theory::Shape;
-
-// The largest t in use.
-const LONGEST: u32 = 10;
-
-// Whether t and r are admitted.
-pub fn admitted(t: u32, r: u32) -> bool
-    ensures { λ x. ⌜ x ≡ admits t r ⌝ }
-{
-    if t < 2 {
-        return false;
-    }
-    if LONGEST < t {
-        return false;
-    }
-    if r < 2 {
-        return false;
-    }
-    if t < r {
-        return false;
-    }
-    t - r <= r
-}
+pub use parameters::admitted;
+pub use parameters::shape_of;
 
 // 2^t.
 fn power(t: u32) -> u32
@@ -49,29 +27,6 @@ fn power(t: u32) -> u32
     ensures { λ x. ⌜ x ≡ 2 ^ t ⌝ }
 {
     1u32 << t
-}
-
-// The shape of the code with t and r.
-pub fn shape_of(t: u32, r: u32) -> Shape
-    ensures { λ x. ⌜ x ≡ shapeFor t r ⌝ }
-{
-    if admitted(t, r) {
-        let n = power(t) - 1;
-        return Shape {
-            a: (2 * r - t) as usize,
-            b: (t - r) as usize,
-            places: n,
-            binary: power(r) - 1,
-            message: n - t,
-        };
-    }
-    Shape {
-        a: 0,
-        b: 0,
-        places: 0,
-        binary: 0,
-        message: 0,
-    }
 }
 
 // The element with one component that is not 0.
@@ -123,7 +78,7 @@ fn message_element(a: usize, b: usize, i: u32, part: u32) -> Element
 pub fn element_at(t: u32, r: u32, place: u32) -> Element
     ensures { λ x. ⌜ x ≡ elementFor t r place ⌝ }
 {
-    let s = shape_of(t, r);
+    let s = parameters::shape_of(t, r);
     let a = s.a;
     let b = s.b;
     let n = s.places;
@@ -147,7 +102,7 @@ pub fn element_at(t: u32, r: u32, place: u32) -> Element
 pub fn place_of(t: u32, r: u32, e: Element) -> u32
     ensures { λ x. ⌜ x ≡ placeFor t r e ⌝ }
 {
-    let s = shape_of(t, r);
+    let s = parameters::shape_of(t, r);
     let a = s.a;
     let b = s.b;
     let n = s.places;

@@ -3,12 +3,12 @@
 use mathlib.Core.Path.{_≡_, refl, sym, ap, ap₂, subst, _∙_}
 use mathlib.Core.List.{List}
 use mathlib.Core.Bool.{Bool, true, false, _&&_}
-use Prim.Native.Nat.{ℕ, zero, suc, _+_, _*_, _^_, _<_, _≤_}
-use native.Mathlib.Nat.{pow-succ'}
+use Prim.Native.Nat.{ℕ, zero, suc, _+_, _*_, _%_, _^_, _<_, _≤_}
+use native.Mathlib.Nat.{pow-succ', mod-eq-of-lt}
 use native.Mathlib.Omega.{arith}
 use lib.Dec.{leb}
 use lib.ListN.{length, List·getD-eq-default}
-use lib.Pow.{pow-pos, pow-mono}
+use lib.Pow.{pow-pos, pow-mono, pow-lt}
 use borrow.Author.Tests.{leb-true, le-leb}
 use Rattle.group_theory.specs.Group.{moduli, zeros, size}
 use Rattle.group_theory.proofs.Fill.{zeros-moduli}
@@ -50,6 +50,12 @@ admitted-admits t r h =
 pub below-power : (t : ℕ) → t < 2 ^ t
 below-power zero = omega arith
 below-power (suc t) = let i = below-power t in rw pow-succ' (omega arith)
+
+-- 1 shifted by k, in a word of so many bits
+pub shift-one : (k bits : ℕ) → k < bits → 1 * 2 ^ k % 2 ^ bits ≡ 2 ^ k
+shift-one k bits h =
+    let l : 2 ^ k < 2 ^ bits = pow-lt h in
+    mod-eq-of-lt (omega (arith, l)) ∙ omega arith
 
 -- what the code needs of parameters that pass, so that nothing overflows
 pub bounds : (t r : ℕ) (b : Bool) → b ≡ admits t r → b ≡ true

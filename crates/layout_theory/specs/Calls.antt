@@ -1,4 +1,5 @@
--- What the public functions of this crate answer, for any two numbers t and r. Assumes nothing.
+-- What the shape of a code, the element of a place and the place of an element are for any two numbers t and r: what the functions of crates
+-- parameters and layout answer. Assumes nothing.
 use mathlib.Core.List.{List}
 use Prim.Native.Nat.{ℕ}
 use Rattle.layout_theory.specs.Choice.{zeroUnless}

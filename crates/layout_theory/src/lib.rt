@@ -1,4 +1,4 @@
-// Parameters and the layout of places. Definitions are in specs/, theorems in
+// Theory of the parameters and of the layout of places. Definitions are in specs/, theorems in
 // proofs/; there is no function here.
 
 // The numbers of document 01's "Parameters"; every field is 0 where t and r are not admitted.

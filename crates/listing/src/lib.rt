@@ -1,4 +1,5 @@
-// The sheet of a code as text: an input line is read, and the listing of its code, or a refusal, is written.
+// The sheet of a code as text: an input line is read, and the listing of its code, or a refusal, is
+// written. The text is defined in crate listing_theory, specs/Sheet.antt.
 //
 // Nothing is required of a caller. The text goes into a buffer of the caller's as far as it fits,
 // and the answer is the length of the whole text, so that a caller sees whether all was written.

@@ -1,5 +1,5 @@
 -- How the code lays the bytes of a message out as weights, in the order of crate folds: 0 for zero and for the units, which are no part of
--- the message. A device of the code; no theorem on words speaks of it. Assumes nothing.
+-- the message. Assumes nothing.
 use mathlib.Core.Path.{_≡_}
 use mathlib.Core.Bool.{Bool, true, false}
 use mathlib.Core.List.{List, [], _∷_}

@@ -14,7 +14,7 @@ ghost use Rattle.words_theory.specs.Calls.{faultFor, widthFor, invertFor, third
 pub fn fault(t: u32, r: u32, word: &[u8]) -> u32
     ensures { λ x. ⌜ x ≡ faultFor t r (now (word .entry)) ⌝ }
 {
-    let s = layout::shape_of(t, r);
+    let s = parameters::shape_of(t, r);
     let n = s.places as usize;
     if n == 0 {
         return 0;
@@ -30,7 +30,7 @@ pub fn fault(t: u32, r: u32, word: &[u8]) -> u32
 pub fn width(t: u32, r: u32, place: u32) -> u32
     ensures { λ x. ⌜ x ≡ widthFor t r place ⌝ }
 {
-    let s = layout::shape_of(t, r);
+    let s = parameters::shape_of(t, r);
     let n = s.places;
     if ones::is_place(n, place) {
         return place::width_of(s, (place - 1) as usize);
@@ -42,7 +42,7 @@ pub fn width(t: u32, r: u32, place: u32) -> u32
 pub fn invert(t: u32, r: u32, word: &[u8], out: &mut [u8])
     ensures { λ x. ⌜ now (out .exit) ≡ invertFor t r (now (word .entry)) (now (out .entry)) ⌝ }
 {
-    let s = layout::shape_of(t, r);
+    let s = parameters::shape_of(t, r);
     let n = s.places as usize;
     if n == 0 {
         return;
@@ -61,7 +61,7 @@ pub fn invert(t: u32, r: u32, word: &[u8], out: &mut [u8])
 pub fn third(t: u32, r: u32, i: u32, j: u32) -> u32
     ensures { λ x. ⌜ x ≡ thirdFor t r i j ⌝ }
 {
-    let s = layout::shape_of(t, r);
+    let s = parameters::shape_of(t, r);
     let n = s.places;
     if ones::is_place(n, i) {
         if ones::is_place(n, j) {

@@ -10,7 +10,7 @@ ghost use Rattle.words_theory.specs.Coding.{third};
 ghost use Rattle.words_theory.specs.Calls.{TwoPlaces};
 use crate::halves;
 use group::Element;
-use layout::Shape;
+use layout_theory::Shape;
 
 // Whether p is one of n places.
 pub(crate) fn is_place(n: u32, p: u32) -> bool

@@ -16,7 +16,7 @@ ghost use Rattle.words_theory.specs.Halves.{widthAt};
 ghost use Rattle.words_theory.specs.Calls as calls;
 use crate::halves;
 use group::Element;
-use layout::Shape;
+use layout_theory::Shape;
 
 // Of the two halves of a pair, the first where their bytes are equal, and else the second.
 fn half(b: u8, c: u8, i: usize, k: usize) -> usize

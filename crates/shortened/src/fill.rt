@@ -96,7 +96,7 @@ pub(crate) fn encode(t: u32, r: u32, s: u32, message: &[u8], out: &mut [u8])
     requires { ⌜ Fits t r s (messageOf t) (length (now message)) × (placesOf t - s ≤ length (now out)) ⌝ }
     ensures { λ x. ⌜ now (out .exit) ≡ shortenedEncode (moduliFor t r) s (now (message .entry)) ++ drop (placesOf t - s) (now (out .entry)) ⌝ }
 {
-    let h = layout::shape_of(t, r);
+    let h = parameters::shape_of(t, r);
     let n = h.places as usize;
     let k = s as usize;
     let front = k + message.len();

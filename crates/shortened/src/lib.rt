@@ -1,7 +1,8 @@
 // Shortened codes, with no record (request C-17): the first s places of a message are fixed at 0 and
 // left out. Every input is answered; nothing is done where t and r are not admitted, s is not allowed,
-// a word or a message is not of its length, or an output is too short (specs/Calls.antt). With s = 0
-// crate words does the work on the caller's own bytes; else on the word filled with s zeros (fill.rt).
+// a word or a message is not of its length, or an output is too short (crate shortened_theory,
+// specs/Calls.antt). With s = 0 the work is done on the caller's own bytes, by the crates that know
+// nothing of s; else by the same on the word filled with s zeros (fill.rt).
 mod fill;
 
 ghost use mathlib.Core.Path.{_≡_};
@@ -9,36 +10,9 @@ ghost use mathlib.Core.Bool.{true, _&&_};
 ghost use Prim.Native.Nat.{_-_};
 ghost use lib.Dec.{leb, ltb};
 ghost use Rattle.layout_theory.specs.Parameters.{placesOf};
-ghost use Rattle.shortened_theory.specs.Allowed.{endsWhole};
 ghost use Rattle.shortened_theory.specs.Code.{isLeftOut};
 ghost use Rattle.shortened_theory.specs.Calls.{allowedFor, fitsWord, fitsMessage, shortenedSyndromeFor, shortenedFaultFor, shortenedEncodeFor, shortenedCombineFor, shortenedInvertFor, shortenedWidthFor, shortenedThirdFor};
 use group::Element;
-
-// Whether t and r are admitted and s is allowed with them.
-pub fn allowed(t: u32, r: u32, s: u32) -> bool
-    ensures { λ x. ⌜ x ≡ allowedFor t r s ⌝ }
-{
-    if layout::admitted(t, r) {
-        let h = layout::shape_of(t, r);
-        let a = h.a as u32;
-        let part = h.binary - a;
-        return ends(part, h.message, s);
-    }
-    false
-}
-
-// Whether s ends inside part 1, at its end or after a whole pair, and a message place stays.
-fn ends(part: u32, message: u32, s: u32) -> bool
-    ensures { λ x. ⌜ x ≡ (endsWhole part s && ltb s message) ⌝ }
-{
-    if s <= part {
-        return s < message;
-    }
-    if (s - part) % 2 == 0 {
-        return s < message;
-    }
-    false
-}
 
 // Whether a place, by the number that it had before renumbering, is one of the s that are left out.
 pub fn is_left_out(s: u32, place: u32) -> bool
@@ -51,8 +25,8 @@ pub fn is_left_out(s: u32, place: u32) -> bool
 fn fits_word(t: u32, r: u32, s: u32, count: usize) -> bool
     ensures { λ x. ⌜ x ≡ fitsWord t r s count ⌝ }
 {
-    if allowed(t, r, s) {
-        let h = layout::shape_of(t, r);
+    if parameters::allowed(t, r, s) {
+        let h = parameters::shape_of(t, r);
         return count == (h.places - s) as usize;
     }
     false
@@ -61,8 +35,8 @@ fn fits_word(t: u32, r: u32, s: u32, count: usize) -> bool
 fn fits_message(t: u32, r: u32, s: u32, count: usize) -> bool
     ensures { λ x. ⌜ x ≡ fitsMessage t r s count ⌝ }
 {
-    if allowed(t, r, s) {
-        let h = layout::shape_of(t, r);
+    if parameters::allowed(t, r, s) {
+        let h = parameters::shape_of(t, r);
         return count == (h.message - s) as usize;
     }
     false
@@ -73,7 +47,7 @@ fn has_room(t: u32, r: u32, s: u32, room: usize) -> bool
     requires { ⌜ allowedFor t r s ≡ true ⌝ }
     ensures { λ x. ⌜ x ≡ leb (placesOf t - s) room ⌝ }
 {
-    let h = layout::shape_of(t, r);
+    let h = parameters::shape_of(t, r);
     (h.places - s) as usize <= room
 }
 
@@ -158,11 +132,11 @@ pub fn invert(t: u32, r: u32, s: u32, word: &[u8], out: &mut [u8])
 pub fn width(t: u32, r: u32, s: u32, place: u32) -> u32
     ensures { λ x. ⌜ x ≡ shortenedWidthFor t r s place ⌝ }
 {
-    if allowed(t, r, s) {
+    if parameters::allowed(t, r, s) {
         if place == 0 {
             return 0;
         }
-        let h = layout::shape_of(t, r);
+        let h = parameters::shape_of(t, r);
         if h.places - s < place {
             return 0;
         }
@@ -176,8 +150,8 @@ pub fn width(t: u32, r: u32, s: u32, place: u32) -> u32
 pub fn third(t: u32, r: u32, s: u32, i: u32, j: u32) -> u32
     ensures { λ x. ⌜ x ≡ shortenedThirdFor t r s i j ⌝ }
 {
-    if allowed(t, r, s) {
-        let h = layout::shape_of(t, r);
+    if parameters::allowed(t, r, s) {
+        let h = parameters::shape_of(t, r);
         let n = h.places - s;
         if is_place(n, i) {
             if is_place(n, j) {

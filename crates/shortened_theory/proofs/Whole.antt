@@ -1,4 +1,4 @@
--- With s = 0 the shortened code is the code: every definition is that of crate words. Assumes nothing.
+-- With s = 0 the shortened code is the code: every definition is that of words_theory. Assumes nothing.
 use mathlib.Core.Path.{_≡_, refl, sym, ap, ap₂, subst, _∙_}
 use mathlib.Core.Logic.{_↔_}
 use mathlib.Core.List.{List}

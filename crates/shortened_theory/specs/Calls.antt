@@ -1,4 +1,4 @@
--- What the public functions of this crate answer, for any t, r and s and any bytes: they do nothing where t and r are not admitted, s is not
+-- What the functions of crate shortened answer, for any t, r and s and any bytes: they do nothing where t and r are not admitted, s is not
 -- allowed, a word or a message is not of its length, or an output is too short. Assumes nothing.
 use mathlib.Core.Path.{_≡_}
 use mathlib.Core.Bool.{Bool, _&&_, not}

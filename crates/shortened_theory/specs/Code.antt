@@ -1,6 +1,6 @@
 -- Request C-17: "the first s message places are fixed at 0 and left out, and places are renumbered from 1". A word of the shortened code is
 -- filled with s zeros in front; what is done to it is what the whole code does to the filled word, and the first s places are dropped again.
--- With s = 0 each definition is that of crate words (`whole`). Assumes nothing.
+-- With s = 0 each definition is that of words_theory (`whole`). Assumes nothing.
 use mathlib.Core.Bool.{Bool, _&&_}
 use mathlib.Core.List.{List, _++_}
 use Prim.Native.Nat.{ℕ, zero, suc, _+_, _-_, _<_, _≤_}

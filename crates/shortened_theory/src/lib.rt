@@ -1,2 +1,2 @@
-// Shortened codes, with no record (request C-17). Definitions are in specs/, theorems in
-// proofs/; there is no function here.
+// Theory of shortened codes (request C-17). Definitions are in specs/, theorems in proofs/; there is
+// no function here.

@@ -1,4 +1,4 @@
--- What the public functions of this crate answer, for any t and r and any bytes: they do nothing where t and r are not admitted, a message is
+-- What the functions of crates coding, combining and places answer, for any t and r and any bytes: they do nothing where t and r are not admitted, a message is
 -- not of its length, or a word or an output is too short. Assumes nothing.
 use mathlib.Core.Bool.{Bool, _&&_, not}
 use mathlib.Core.Logic.{_≢_}

@@ -1,2 +1,2 @@
-// Words of a code, with no record. Definitions are in specs/, theorems in
-// proofs/; there is no function here.
+// Theory of the words of a code: combining, syndrome, encoding, correction, the third place.
+// Definitions are in specs/, theorems in proofs/; there is no function here.

@@ -1,7 +1,8 @@
 // The calls for C, by t and r, with no record: each opens a record, and is the coder's call with it.
 // They answer 0 or a place, and a refusal as its negated number. What each answers and writes is
-// defined in specs/Calls.antt; that it is the coder's call is proofs/Opening.antt. In C a slice is
-// a pointer and a length (include/z2z4.h). The caller keeps an output apart from what is read.
+// defined in crate z2z4_theory, specs/Calls.antt; that it is the coder's call is a theorem there. In C
+// a slice is a pointer and a length (include/z2z4.h). The caller keeps an output apart from what is
+// read.
 ghost use mathlib.Core.Path.{_≡_};
 ghost use Prim.Native.Nat.{_<_, _^_};
 ghost use Rattle.z2z4_theory.specs.Calls.{signed, encodeAnswerForC, encodeOutputForC, correctAnswerForC, correctOutputForC, combineAnswerForC, combineOutputForC, thirdAnswerForC};

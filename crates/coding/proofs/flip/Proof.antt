@@ -1,4 +1,4 @@
--- `words::flip` meets its contract: the word is copied, and then one byte is changed. Assumes nothing.
+-- `coding::flip` meets its contract: the word is copied, and then one byte is changed. Assumes nothing.
 use borrow.Author.Needs.{needs}
 use mathlib.Core.Path.{ap, _∙_}
 use mathlib.Core.List.{List, _++_}

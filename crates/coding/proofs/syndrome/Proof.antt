@@ -1,4 +1,4 @@
--- `words::syndrome` meets its contract: zero, or the message's part and the check's. Assumes nothing.
+-- `coding::syndrome` meets its contract: zero, or the message's part and the check's. Assumes nothing.
 use borrow.Author.Needs.{needs}
 use mathlib.Core.Path.{ap₂, _∙_}
 use native.Mathlib.Omega.{arith}

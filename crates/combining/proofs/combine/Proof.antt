@@ -1,4 +1,4 @@
--- `words::combine` meets its contract: two words and an output that are long enough are combined, all else is left. Assumes nothing.
+-- `combining::combine` meets its contract: two words and an output that are long enough are combined, all else is left. Assumes nothing.
 use borrow.Author.Needs.{needs}
 use mathlib.Core.Path.{_∙_}
 use native.Mathlib.Omega.{arith}

@@ -1,4 +1,4 @@
--- `words::gray::digit` meets its contract: the Gray map, read. Assumes nothing.
+-- `gray::digit` meets its contract: the Gray map, read. Assumes nothing.
 use borrow.Author.Needs.{needs}
 use mathlib.Core.Path.{_≡_, refl}
 use Prim.Native.Nat.{ℕ, zero, suc, _-_, _<_, _≤_}

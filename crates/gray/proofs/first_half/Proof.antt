@@ -1,4 +1,4 @@
--- `words::gray::first_half` meets its contract. Assumes nothing.
+-- `gray::first_half` meets its contract. Assumes nothing.
 use mathlib.Core.Path.{_≡_, refl}
 use mathlib.Core.List.{[]}
 use Prim.Native.Nat.{ℕ, zero, suc, _<_, _≤_}

@@ -1,4 +1,4 @@
--- `words::gray::second_half` meets its contract. Assumes nothing.
+-- `gray::second_half` meets its contract. Assumes nothing.
 use borrow.Author.Needs.{needs}
 use mathlib.Core.Path.{_≡_, refl}
 use mathlib.Core.List.{[]}

@@ -1,4 +1,4 @@
--- `words::fault` meets its contract: 0, or the place told from the syndrome. Assumes nothing.
+-- `places::fault` meets its contract: 0, or the place told from the syndrome. Assumes nothing.
 use borrow.Author.Needs.{needs}
 use mathlib.Core.Path.{sym, _∙_}
 use native.Mathlib.Omega.{arith}

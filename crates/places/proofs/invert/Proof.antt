@@ -1,4 +1,4 @@
--- `words::invert` meets its contract: a word and an output that are long enough are swapped, all else is left. Assumes nothing.
+-- `places::invert` meets its contract: a word and an output that are long enough are swapped, all else is left. Assumes nothing.
 use borrow.Author.Needs.{needs}
 use mathlib.Core.Path.{_∙_}
 use native.Mathlib.Omega.{arith}

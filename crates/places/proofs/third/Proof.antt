@@ -1,4 +1,4 @@
--- `words::third` meets its contract. Assumes nothing.
+-- `places::third` meets its contract. Assumes nothing.
 use borrow.Author.Needs.{needs}
 use mathlib.Core.Path.{sym, _∙_}
 use Rattle.words_theory.specs.Calls.{TwoPlaces}

@@ -1,4 +1,4 @@
--- `coder::check::correction` meets its contract. Assumes nothing.
+-- `checks::check::correction` meets its contract. Assumes nothing.
 use mathlib.Core.List.{[]}
 use mathlib.Core.Path.{sym, ap, _∙_}
 use Prim.Native.Nat.{ℕ}

@@ -1,4 +1,4 @@
--- `coder::check::output` meets its contract: each test is that of a reason, in their order. Assumes nothing.
+-- `checks::check::output` meets its contract: each test is that of a reason, in their order. Assumes nothing.
 use borrow.Author.Needs.{needs}
 use borrow.Author.Tests.{eq-eqb, ne-eqb, lt-ltb, le-ltb}
 use mathlib.Core.Path.{_≡_, sym, ap, _∙_}

@@ -1,4 +1,4 @@
--- `coder::check::places` meets its contract. Assumes nothing.
+-- `checks::check::places` meets its contract. Assumes nothing.
 use borrow.Author.Needs.{needs}
 use borrow.Author.Tests.{eq-eqb, ne-eqb}
 use mathlib.Core.Path.{_≡_, sym, ap, _∙_}

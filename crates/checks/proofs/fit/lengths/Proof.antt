@@ -1,4 +1,4 @@
--- `coder::fit::lengths` meets its contract: the lengths of the record's shape without the s places that are left out, or 0. Assumes nothing.
+-- `checks::fit::lengths` meets its contract: the lengths of the record's shape without the s places that are left out, or 0. Assumes nothing.
 use mathlib.Core.Path.{sym, _∙_}
 use borrow.Author.Needs.{needs}
 use Rattle.coder_theory.specs.State.{placesIn, messageIn}

@@ -1,4 +1,4 @@
--- `coder::fit::not_allowed` meets its contract. Assumes nothing.
+-- `checks::fit::not_allowed` meets its contract. Assumes nothing.
 use mathlib.Core.Path.{sym, ap, _∙_}
 use mathlib.Core.Bool.{not}
 use borrow.Author.Needs.{needs}

@@ -1,4 +1,4 @@
--- `coder::fit::state` meets its contract. Assumes nothing.
+-- `checks::fit::state` meets its contract. Assumes nothing.
 use mathlib.Core.List.{[]}
 use mathlib.Core.Path.{sym, ap, _∙_}
 use Prim.Native.Nat.{ℕ}

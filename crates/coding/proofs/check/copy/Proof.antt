@@ -1,4 +1,4 @@
--- `words::check::copy` meets its contract. Assumes nothing.
+-- `coding::check::copy` meets its contract. Assumes nothing.
 use borrow.Author.Needs.{needs}
 use mathlib.Core.Path.{_≡_, refl, ap, _∙_}
 use mathlib.Core.List.{_++_}

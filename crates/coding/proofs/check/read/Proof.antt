@@ -1,4 +1,4 @@
--- `words::check::read` meets its contract: each turn reads one component. Assumes nothing.
+-- `coding::check::read` meets its contract: each turn reads one component. Assumes nothing.
 use borrow.Author.Needs.{needs}
 use mathlib.Core.Logic.{⊎-elim}
 use Prim.Native.Nat.{_-_}

@@ -1,9 +1,9 @@
--- `words::check::write` meets its contract: each turn writes the digit of one component. Assumes nothing.
+-- `coding::check::write` meets its contract: each turn writes the digit of one component. Assumes nothing.
 use borrow.Author.Needs.{needs}
 use mathlib.Core.Logic.{⊎-elim}
-use Prim.Native.Nat.{_-_}
+use Prim.Native.Nat.{_+_, _-_, _<_}
 use native.Mathlib.Omega.{arith}
-use lib.ListN.{length-set}
+use lib.ListN.{length, length-set}
 use Rattle.loops_theory.proofs.CheckWriting.{Digits, digits-start, digits-end, room-two, room-four, write-two, write-four, write-one}
 use Rattle.coding.proofs.check.write.Statement.{statement}
 use Rattle.coding.proofs.check.write.Tie as tie
@@ -20,53 +20,42 @@ loop-holds c = digits-start _ _ _ _ _ (search needs) (c .before .pre .0) (c .bef
 array-read-d : tie.Need-array-read-d Inv-loop μ-loop
 array-read-d c = search needs
 
-slice-write-out : tie.Need-slice-write-out Inv-loop μ-loop
-slice-write-out c =
+-- there is room for the places of the next component
+one : (c : tie.Then1 Inv-loop μ-loop) → c .before .before .loop .at < length (c .before .before .loop .out)
+one c =
     let l = c .before .before in
     let g = l .before .before in
-    let h = room-two _ _ _ _ _ (search needs) (g .pre .0) (g .pre .1) _ _ _ (l .loop .inv) (c .before .loop-test .taken) (c .if1 .taken) in
-    h
+    room-two _ _ _ _ _ (search needs) (g .pre .0) (g .pre .1) _ _ _ (l .loop .inv) (c .before .loop-test .taken) (c .if1 .taken)
+
+two : (c : tie.Then2 Inv-loop μ-loop) → c .before .before .before .loop .at + 1 < length (c .before .before .before .loop .out)
+two c =
+    let l = c .before .before .before in
+    let g = l .before .before in
+    room-four _ _ _ _ _ (search needs) (g .pre .0) (g .pre .1) _ _ _ (l .loop .inv) (c .before .before .loop-test .taken) (c .before .if1 .left) (c .if2 .taken)
+
+slice-write-out : tie.Need-slice-write-out Inv-loop μ-loop
+slice-write-out c = one c
 
 add-at : tie.Need-add-at Inv-loop μ-loop
-add-at c =
-    let l = c .before .before in
-    let g = l .before .before in
-    let h = room-two _ _ _ _ _ (search needs) (g .pre .0) (g .pre .1) _ _ _ (l .loop .inv) (c .before .loop-test .taken) (c .if1 .taken) in
-    search needs
+add-at c = let h = one c in search needs
 
 first-half-requires : tie.Need-first-half-requires Inv-loop μ-loop
 first-half-requires c κs = search needs
 
 slice-write-out-2 : tie.Need-slice-write-out-2 Inv-loop μ-loop
-slice-write-out-2 c =
-    let l = c .before .before .before .before in
-    let g = l .before .before in
-    let h = room-four _ _ _ _ _ (search needs) (g .pre .0) (g .pre .1) _ _ _ (l .loop .inv) (c .before .before .before .loop-test .taken) (c .before .before .if1 .left) (c .before .if2 .taken) in
-    omega arith
+slice-write-out-2 c = let h = two (c .before) in omega arith
 
 second-half-requires : tie.Need-second-half-requires Inv-loop μ-loop
 second-half-requires c κs = search needs
 
 add-out : tie.Need-add-out Inv-loop μ-loop
-add-out c =
-    let l = c .before .before .before .before .before in
-    let g = l .before .before in
-    let h = room-four _ _ _ _ _ (search needs) (g .pre .0) (g .pre .1) _ _ _ (l .loop .inv) (c .before .before .before .before .loop-test .taken) (c .before .before .before .if1 .left) (c .before .before .if2 .taken) in
-    search needs
+add-out c = let h = two (c .before .before) in search needs
 
 slice-write-out-3 : tie.Need-slice-write-out-3 Inv-loop μ-loop
-slice-write-out-3 c =
-    let l = c .before .before .before .before .before in
-    let g = l .before .before in
-    let h = room-four _ _ _ _ _ (search needs) (g .pre .0) (g .pre .1) _ _ _ (l .loop .inv) (c .before .before .before .before .loop-test .taken) (c .before .before .before .if1 .left) (c .before .before .if2 .taken) in
-    rw length-set h
+slice-write-out-3 c = rw length-set (two (c .before .before))
 
 add-at-2 : tie.Need-add-at-2 Inv-loop μ-loop
-add-at-2 c =
-    let l = c .before .before .before .before .before in
-    let g = l .before .before in
-    let h = room-four _ _ _ _ _ (search needs) (g .pre .0) (g .pre .1) _ _ _ (l .loop .inv) (c .before .before .before .before .loop-test .taken) (c .before .before .before .if1 .left) (c .before .before .if2 .taken) in
-    search needs
+add-at-2 c = let h = two (c .before .before) in search needs
 
 add-i : tie.Need-add-i Inv-loop μ-loop
 add-i c = search needs

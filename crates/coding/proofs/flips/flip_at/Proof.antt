@@ -1,4 +1,4 @@
--- `words::place::flip_at` meets its contract. Assumes nothing.
+-- `coding::flips::flip_at` meets its contract. Assumes nothing.
 use borrow.Author.Needs.{needs}
 use Rattle.loops_theory.proofs.Faults.{flip-nothing, flip-outside, flip-inside}
 use Rattle.coding.proofs.flips.flip_at.Statement.{statement}

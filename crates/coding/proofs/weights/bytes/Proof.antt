@@ -1,4 +1,4 @@
--- `words::weights::bytes` meets its contract. Assumes nothing.
+-- `coding::weights::bytes` meets its contract. Assumes nothing.
 use borrow.Author.Needs.{needs}
 use mathlib.Core.Bool.{false}
 use Prim.Native.Nat.{_-_}

@@ -1,4 +1,4 @@
--- `words::weights::digits` meets its contract. Assumes nothing.
+-- `coding::weights::digits` meets its contract. Assumes nothing.
 use borrow.Author.Needs.{needs}
 use mathlib.Core.Bool.{true}
 use Prim.Native.Nat.{_-_}

@@ -1,4 +1,4 @@
--- `words::weights::every_other` meets its contract. Assumes nothing.
+-- `coding::weights::every_other` meets its contract. Assumes nothing.
 use borrow.Author.Needs.{needs}
 use Prim.Native.Nat.{_%_}
 use native.Mathlib.Omega.{arith}

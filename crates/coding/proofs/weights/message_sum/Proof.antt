@@ -1,4 +1,4 @@
--- `words::weights::message_sum` meets its contract. Assumes nothing.
+-- `coding::weights::message_sum` meets its contract. Assumes nothing.
 use borrow.Author.Needs.{needs}
 use mathlib.Core.Path.{_∙_}
 use Rattle.loops_theory.proofs.Segments.{weights-sum}

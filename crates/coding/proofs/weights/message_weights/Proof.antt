@@ -1,4 +1,4 @@
--- `words::weights::message_weights` meets its contract. Assumes nothing.
+-- `coding::weights::message_weights` meets its contract. Assumes nothing.
 use borrow.Author.Needs.{needs}
 use mathlib.Core.Path.{ap, _∙_}
 use mathlib.Core.Bool.{false}

@@ -1,4 +1,4 @@
--- `words::weights::pair_segment` meets its contract. Assumes nothing.
+-- `coding::weights::pair_segment` meets its contract. Assumes nothing.
 use borrow.Author.Needs.{needs}
 use native.Mathlib.Omega.{arith}
 use Rattle.loops_theory.proofs.Laying.{pairs-none, pairs-some}

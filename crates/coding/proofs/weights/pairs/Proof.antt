@@ -1,4 +1,4 @@
--- `words::weights::pairs` meets its contract. Assumes nothing.
+-- `coding::weights::pairs` meets its contract. Assumes nothing.
 use borrow.Author.Needs.{needs}
 use Prim.Native.Nat.{_-_}
 use native.Mathlib.Omega.{arith}

@@ -1,4 +1,4 @@
--- `words::weights::singles` meets its contract. Assumes nothing.
+-- `coding::weights::singles` meets its contract. Assumes nothing.
 use borrow.Author.Needs.{needs}
 use mathlib.Core.Path.{refl}
 use Prim.Native.Nat.{_+_, _-_}

@@ -1,4 +1,4 @@
--- `words::sums::combine` meets its contract: the four parts of the layout are written one after the other. Assumes nothing.
+-- `combining::sums::combine` meets its contract: the four parts of the layout are written one after the other. Assumes nothing.
 use borrow.Author.Needs.{needs}
 use Rattle.layout_theory.proofs.Parameters.{Sizes}
 use Rattle.words_theory.proofs.Shapes.{sizes}

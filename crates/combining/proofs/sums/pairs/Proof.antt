@@ -1,7 +1,7 @@
--- `words::sums::pairs` meets its contract: each turn writes the sum at the two places of one pair. Assumes nothing.
+-- `combining::sums::pairs` meets its contract: each turn writes the sum at the two places of one pair. Assumes nothing.
 use borrow.Author.Needs.{needs}
-use mathlib.Core.Path.{_≡_, refl}
-use Prim.Native.Nat.{_+_, _-_, _%_, _≤_}
+use mathlib.Core.Path.{_≡_, refl, ap₂, _∙_}
+use Prim.Native.Nat.{ℕ, _+_, _-_, _%_, _≤_}
 use native.Mathlib.Omega.{arith}
 use lib.ListN.{length, length-set}
 use Rattle.loops_theory.specs.Writing.{Onward, SumsFour, digitAt}
@@ -71,7 +71,11 @@ loop-again : tie.Need-loop-again Inv-loop μ-loop
 loop-again c =
     let l = c .before .before .before .before .before .before .before .before .before .before .loop in
     let q = c .before .before .before .before .before .before .before .before .before .before .before .before .before .before .args in
-    let sum : c .before .before .sum-four .result ≡ (digitAt (q .first .now) (l .i) + digitAt (q .second .now) (l .i)) % 4 = cc in (
+    let s = c .before .before in
+    let e = s .before in
+    let d = e .before .before .before in
+    let sum : s .sum-four .result ≡ (digitAt (q .first .now) (l .i) + digitAt (q .second .now) (l .i)) % 4 =
+    s .sum-four .ensures ∙ ap₂ (λ (x y : ℕ). (x + y) % 4) (d .digit .ensures) (e .digit2 .ensures) in (
       search needs,
       search needs,
       search needs,

@@ -1,4 +1,4 @@
--- `words::sums::singles` meets its contract: each turn writes the sum at one place. Assumes nothing.
+-- `combining::sums::singles` meets its contract: each turn writes the sum at one place. Assumes nothing.
 use borrow.Author.Needs.{needs}
 use mathlib.Core.Path.{_≡_, refl}
 use Prim.Native.Nat.{_-_, _≤_}

@@ -1,4 +1,4 @@
--- `words::halves::other_index` meets its contract: the part in which an index lies says where its pair begins. Assumes nothing.
+-- `places::halves::other_index` meets its contract: the part in which an index lies says where its pair begins. Assumes nothing.
 use borrow.Author.Needs.{needs}
 use mathlib.Core.Path.{sym, _∙_}
 use Prim.Native.Nat.{ℕ, _-_, _<_}

@@ -1,4 +1,4 @@
--- `words::halves::swap` meets its contract. The invariant: the inverse is written over the first i bytes. Assumes nothing.
+-- `places::halves::swap` meets its contract. The invariant: the inverse is written over the first i bytes. Assumes nothing.
 use borrow.Author.Needs.{needs}
 use mathlib.Core.Path.{_≡_, ap, sym, _∙_}
 use mathlib.Core.List.{List}

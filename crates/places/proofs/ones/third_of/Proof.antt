@@ -1,4 +1,4 @@
--- `words::ones::third_of` meets its contract. Assumes nothing.
+-- `places::ones::third_of` meets its contract. Assumes nothing.
 use borrow.Author.Needs.{needs}
 use mathlib.Core.Path.{_≡_, sym, ap, _∙_}
 use mathlib.Core.Bool.{_||_}

@@ -1,4 +1,4 @@
--- `words::ones::two_ones` meets its contract. Assumes nothing.
+-- `places::ones::two_ones` meets its contract. Assumes nothing.
 use borrow.Author.Needs.{needs}
 use mathlib.Core.Path.{_≡_, sym, ap, ap₂, _∙_}
 use mathlib.Core.List.{List}

@@ -1,4 +1,4 @@
--- `words::place::fault_of` meets its contract. Assumes nothing.
+-- `places::place::fault_of` meets its contract. Assumes nothing.
 use borrow.Author.Needs.{needs}
 use Prim.Native.Nat.{_-_, _<_}
 use native.Mathlib.Omega.{arith}

@@ -1,8 +1,8 @@
--- `shortened::ends` meets its contract. Assumes nothing.
+-- `parameters::ends` meets its contract. Assumes nothing.
 use borrow.Author.Tests.{le-leb, lt-leb, eq-eqb, ne-eqb}
 use borrow.Author.Needs.{needs}
-use Rattle.shortened.proofs.ends.Statement.{statement}
-use Rattle.shortened.proofs.ends.Tie as tie
+use Rattle.parameters.proofs.ends.Statement.{statement}
+use Rattle.parameters.proofs.ends.Tie as tie
 
 returns : tie.Need-returns
 returns c = rw (le-leb _ _ (c .if1 .taken))

@@ -1,4 +1,4 @@
--- `shortened::allowed` meets its contract. Assumes nothing.
+-- `parameters::allowed` meets its contract. Assumes nothing.
 use mathlib.Core.Path.{sym, _∙_}
 use native.Mathlib.Omega.{arith}
 use borrow.Author.Needs.{needs}
@@ -6,8 +6,8 @@ use Rattle.layout_theory.specs.Parameters.{Admitted}
 use Rattle.layout_theory.proofs.Parameters.{admits-admitted}
 use Rattle.shortened_theory.specs.Calls.{allowedFor}
 use Rattle.shortened_theory.proofs.Guards.{shape-known, part-small, shape-allows}
-use Rattle.shortened.proofs.allowed.Statement.{statement}
-use Rattle.shortened.proofs.allowed.Tie as tie
+use Rattle.parameters.proofs.allowed.Statement.{statement}
+use Rattle.parameters.proofs.allowed.Tie as tie
 
 admitted-requires : tie.Need-admitted-requires
 admitted-requires c κs = search needs

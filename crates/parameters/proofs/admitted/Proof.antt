@@ -1,4 +1,4 @@
--- `layout::admitted` meets its contract: it stops at the first inequality that fails. Assumes nothing.
+-- `parameters::admitted` meets its contract: it stops at the first inequality that fails. Assumes nothing.
 use mathlib.Core.Path.{_≡_}
 use mathlib.Core.Bool.{true}
 use Prim.Native.Nat.{ℕ, _-_, _*_, _≤_}
@@ -7,8 +7,8 @@ use lib.Dec.{leb}
 use borrow.Author.Tests.{leb-true, le-leb, lt-leb}
 use Rattle.group_theory.proofs.Signs.{agree}
 use Rattle.layout_theory.specs.Parameters.{longest, admits}
-use Rattle.layout.proofs.admitted.Statement.{statement}
-use Rattle.layout.proofs.admitted.Tie as tie
+use Rattle.parameters.proofs.admitted.Statement.{statement}
+use Rattle.parameters.proofs.admitted.Tie as tie
 
 -- the last test takes r from t, so that nothing overflows
 twice : (t r : ℕ) → r ≤ t → leb (t - r) r ≡ leb t (2 * r)

@@ -1,0 +1,82 @@
+// The parameters: whether t and r are admitted, whether s is allowed with them, and the numbers of their
+// code. What each function answers is defined in crate layout_theory, specs/Parameters.antt and
+// Calls.antt, and in crate shortened_theory, specs/Allowed.antt.
+ghost use mathlib.Core.Path.{_≡_};
+ghost use mathlib.Core.Bool.{_&&_};
+ghost use lib.Dec.{ltb};
+ghost use Rattle.layout_theory.specs.Parameters.{admits};
+ghost use Rattle.layout_theory.specs.Calls.{shapeFor};
+ghost use Rattle.shortened_theory.specs.Allowed.{endsWhole};
+ghost use Rattle.shortened_theory.specs.Calls.{allowedFor};
+pub use layout_theory::Shape;
+
+// The largest t in use.
+const LONGEST: u32 = 10;
+
+// Whether t and r are admitted.
+pub fn admitted(t: u32, r: u32) -> bool
+    ensures { λ x. ⌜ x ≡ admits t r ⌝ }
+{
+    if t < 2 {
+        return false;
+    }
+    if LONGEST < t {
+        return false;
+    }
+    if r < 2 {
+        return false;
+    }
+    if t < r {
+        return false;
+    }
+    t - r <= r
+}
+
+// The shape of the code with t and r.
+pub fn shape_of(t: u32, r: u32) -> Shape
+    ensures { λ x. ⌜ x ≡ shapeFor t r ⌝ }
+{
+    if admitted(t, r) {
+        let n = (1u32 << t) - 1;
+        return Shape {
+            a: (2 * r - t) as usize,
+            b: (t - r) as usize,
+            places: n,
+            binary: (1u32 << r) - 1,
+            message: n - t,
+        };
+    }
+    Shape {
+        a: 0,
+        b: 0,
+        places: 0,
+        binary: 0,
+        message: 0,
+    }
+}
+
+// Whether t and r are admitted and s is allowed with them.
+pub fn allowed(t: u32, r: u32, s: u32) -> bool
+    ensures { λ x. ⌜ x ≡ allowedFor t r s ⌝ }
+{
+    if admitted(t, r) {
+        let h = shape_of(t, r);
+        let a = h.a as u32;
+        let part = h.binary - a;
+        return ends(part, h.message, s);
+    }
+    false
+}
+
+// Whether s ends inside part 1, at its end or after a whole pair, and a message place stays.
+fn ends(part: u32, message: u32, s: u32) -> bool
+    ensures { λ x. ⌜ x ≡ (endsWhole part s && ltb s message) ⌝ }
+{
+    if s <= part {
+        return s < message;
+    }
+    if (s - part) % 2 == 0 {
+        return s < message;
+    }
+    false
+}
