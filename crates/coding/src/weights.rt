@@ -11,7 +11,7 @@ ghost use lib.ListN.{length, take, drop, set};
 ghost use Rattle.group_theory.specs.Group.{moduli};
 ghost use Rattle.layout_theory.specs.Choice.{pick};
 ghost use Rattle.layout_theory.specs.Layout.{message};
-ghost use Rattle.blocks_theory.specs.Blocks.{plus, even, level, plusTo, evenTo};
+ghost use Rattle.blocks_theory.specs.Blocks.{plus, even, level, plusTo};
 ghost use Rattle.folds_theory.specs.Folds.{room};
 ghost use Rattle.words_theory.specs.Syndrome.{syndromeOver};
 ghost use Rattle.loops_theory.specs.Spread.{spread, row, HoldsMessage};

@@ -1,7 +1,6 @@
 // Zero and the units stand among the elements of their sign, but not in the message. So an index of a
 // part of the message and the index among all elements of its sign differ by how many of them stand
 // before it. The unit of a component stands where the numbers without that component end.
-ghost use mathlib.Core.Path.{_≡_};
 ghost use Prim.Native.Nat.{_+_, _-_, _≤_, _<_, _^_};
 ghost use lib.ListN.{length};
 ghost use Rattle.group_theory.specs.Group.{moduli};

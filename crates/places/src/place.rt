@@ -1,16 +1,14 @@
 // One place of a word: which is at fault, the word with it flipped, and whether it is binary or of a
 // pair.
 ghost use mathlib.Core.Path.{_≡_};
-ghost use mathlib.Core.List.{_++_};
 ghost use Prim.Native.Nat.{ℕ, _-_, _<_, _≤_};
 ghost use lib.Dec.{eqb};
-ghost use lib.ListN.{length, drop};
+ghost use lib.ListN.{length};
 ghost use Rattle.group_theory.specs.Group.{moduli};
 ghost use Rattle.layout_theory.specs.Choice.{pick};
 ghost use Rattle.layout_theory.specs.Parameters.{moduliFor};
 ghost use Rattle.layout_theory.specs.Layout.{slots};
 ghost use Rattle.layout_theory.specs.Calls.{shapeFor};
-ghost use Rattle.words_theory.specs.Words as words;
 ghost use Rattle.words_theory.specs.Syndrome.{syndrome};
 ghost use Rattle.words_theory.specs.Halves.{widthAt};
 ghost use Rattle.words_theory.specs.Calls as calls;

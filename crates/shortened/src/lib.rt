@@ -8,7 +8,7 @@ mod fill;
 ghost use mathlib.Core.Path.{_≡_};
 ghost use mathlib.Core.Bool.{true, _&&_};
 ghost use Prim.Native.Nat.{_-_};
-ghost use lib.Dec.{leb, ltb};
+ghost use lib.Dec.{leb};
 ghost use Rattle.layout_theory.specs.Parameters.{placesOf};
 ghost use Rattle.shortened_theory.specs.Code.{isLeftOut};
 ghost use Rattle.shortened_theory.specs.Calls.{allowedFor, fitsWord, fitsMessage, shortenedSyndromeFor, shortenedFaultFor, shortenedEncodeFor, shortenedCombineFor, shortenedInvertFor, shortenedWidthFor, shortenedThirdFor};

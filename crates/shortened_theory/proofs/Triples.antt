@@ -12,7 +12,7 @@ use Rattle.words_theory.specs.Coding.{onesAt}
 use Rattle.words_theory.specs.Coding as coding
 use Rattle.words_theory.specs.Claims as claims
 use Rattle.words_theory.proofs.Thirds as whole
-use Rattle.shortened_theory.specs.Code.{fill, oldPlace, newPlace, LeftOut, ShortenedCodeword, thirdOldPlace, shortenedThird}
+use Rattle.shortened_theory.specs.Code.{fill, oldPlace, newPlace, LeftOut, thirdOldPlace, shortenedThird}
 use Rattle.shortened_theory.specs.Claims.{ShortenedThreeAt, ShortenedThirdOf}
 use Rattle.shortened_theory.proofs.Filling.{fill-zero, weight-fill, new-old, old-kept, old-within, old-new, flip-fill}
 

@@ -12,7 +12,7 @@ use Rattle.group_theory.specs.Group.{Modulus, zeros, sum, negative}
 use Rattle.group_theory.proofs.Laws.{valid-negative, zero-sum, negative-negative}
 use Rattle.group_theory.proofs.Signs.{T-true}
 use Rattle.layout_theory.specs.Choice.{pick}
-use Rattle.layout_theory.specs.Layout.{Slot, slots, places, elementAt, placeOf}
+use Rattle.layout_theory.specs.Layout.{Slot, slots, elementAt, placeOf}
 use Rattle.layout_theory.proofs.Places.{good-slots, valid-at-place, place-unique}
 use Rattle.layout_theory.proofs.Cover.{negative-nonzero}
 use Rattle.words_theory.specs.Words.{zeroWord, flipAt, flip}

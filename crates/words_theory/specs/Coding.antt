@@ -1,7 +1,7 @@
 -- Document 01, "Words": encoding, correction, and the third place. Assumes nothing.
 use mathlib.Core.Bool.{Bool, _&&_}
 use mathlib.Core.List.{List, [], _∷_, _++_}
-use Prim.Native.Nat.{ℕ, zero, suc, _-_}
+use Prim.Native.Nat.{ℕ, suc, _-_}
 use lib.Dec.{eqb}
 use Rattle.group_theory.specs.Group.{Modulus, one, two, four, hd, tl, negative}
 use Rattle.group_theory.specs.Sign.{same, allZero}

@@ -1,15 +1,8 @@
 -- `folds::both` meets its contract. Assumes nothing.
 use borrow.Author.Needs.{needs}
 use Rattle.folds_theory.proofs.Wholes.{Shares, shares, both-sum, singles-only}
-use Rattle.group.proofs.add.Reads as add-reads
-use Rattle.group.proofs.zero.Reads as zero-reads
 use Rattle.folds.proofs.both.Statement.{statement}
 use Rattle.folds.proofs.both.Tie as tie
-use Rattle.folds.proofs.both.Reads as reads
-use Rattle.folds.proofs.both.Lts as lts
-use Rattle.folds.proofs.halves.Reads as halves-reads
-use Rattle.folds.proofs.pairs.Reads as pairs-reads
-use Rattle.folds.proofs.power.Reads as power-reads
 
 -- what is known once n and e are there
 known : (c : tie.After-power2) → Shares (c .before .before .before .args .a) (c .before .before .before .args .b) (c .before .power .result) (c .power2 .result)

@@ -3,8 +3,6 @@ use borrow.Author.Needs.{needs}
 use Rattle.folds_theory.proofs.Halving.{digit-two, digit-four}
 use Rattle.folds.proofs.digit.Statement.{statement}
 use Rattle.folds.proofs.digit.Tie as tie
-use Rattle.folds.proofs.digit.Reads as reads
-use Rattle.folds.proofs.digit.Lts as lts
 
 mul-result : tie.Need-mul-result
 mul-result c = search needs

@@ -6,9 +6,6 @@ use Rattle.folds_theory.proofs.Offs.{length-first-plus}
 use Rattle.folds_theory.proofs.Gathers.{Gathering, first-start, first-step, gather-done}
 use Rattle.folds.proofs.first_plus.Statement.{statement}
 use Rattle.folds.proofs.first_plus.Tie as tie
-use Rattle.folds.proofs.first_plus.Reads as reads
-use Rattle.folds.proofs.first_plus.Lts as lts
-use Rattle.std.proofs.num.wrapping_add_u8.Reads as wrapping-add-u8-reads
 
 abbrev Inv-loop : tie.InvT-loop
 Inv-loop p m v₀ c₀ i₀ v c i = Gathering 0 (firstPlus p m v₀) (firstTops p m v₀) v₀ v c i

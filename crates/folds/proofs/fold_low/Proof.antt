@@ -6,9 +6,6 @@ use Rattle.folds_theory.proofs.Offs.{length-low}
 use Rattle.folds_theory.proofs.Gathers.{Gathering, low-start, low-step, gather-done}
 use Rattle.folds.proofs.fold_low.Statement.{statement}
 use Rattle.folds.proofs.fold_low.Tie as tie
-use Rattle.folds.proofs.fold_low.Reads as reads
-use Rattle.folds.proofs.fold_low.Lts as lts
-use Rattle.std.proofs.num.wrapping_add_u8.Reads as wrapping-add-u8-reads
 
 abbrev Inv-loop : tie.InvT-loop
 Inv-loop p m v₀ q c₀ i₀ v c i = Gathering p (nextLow p m v₀) (lowTops p m v₀) v₀ v c i

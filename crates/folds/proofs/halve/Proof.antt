@@ -6,9 +6,6 @@ use Rattle.folds_theory.specs.Folds.{stretch}
 use Rattle.folds_theory.proofs.Gathers.{Gathering, halve-start, halve-step, halve-length, gather-done}
 use Rattle.folds.proofs.halve.Statement.{statement}
 use Rattle.folds.proofs.halve.Tie as tie
-use Rattle.folds.proofs.halve.Reads as reads
-use Rattle.folds.proofs.halve.Lts as lts
-use Rattle.std.proofs.num.wrapping_add_u8.Reads as wrapping-add-u8-reads
 
 abbrev Inv-loop : tie.InvT-loop
 Inv-loop start n v₀ c₀ i₀ v c i = Gathering start (added (stretch start n v₀) (stretch (start + n) n v₀)) (stretch (start + n) n v₀) v₀ v c i

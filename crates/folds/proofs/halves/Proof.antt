@@ -3,10 +3,6 @@ use borrow.Author.Needs.{needs}
 use Rattle.folds_theory.proofs.Halving.{Halving, halving-start, halving-step, halving-done}
 use Rattle.folds.proofs.halves.Statement.{statement}
 use Rattle.folds.proofs.halves.Tie as tie
-use Rattle.folds.proofs.halves.Reads as reads
-use Rattle.folds.proofs.halves.Lts as lts
-use Rattle.folds.proofs.digit.Reads as digit-reads
-use Rattle.folds.proofs.halve.Reads as halve-reads
 
 abbrev Inv-loop : tie.InvT-loop
 Inv-loop a b top start n v₀ r₀ h₀ i₀ v r h i = Halving a b top start n v₀ r₀ v r h i

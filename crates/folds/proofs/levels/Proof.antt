@@ -3,11 +3,6 @@ use borrow.Author.Needs.{needs}
 use Rattle.folds_theory.proofs.Levelling.{Levelling, levelling-start, round, levelling-step, levelling-asks, levelling-done}
 use Rattle.folds.proofs.levels.Statement.{statement}
 use Rattle.folds.proofs.levels.Tie as tie
-use Rattle.folds.proofs.levels.Reads as reads
-use Rattle.folds.proofs.levels.Lts as lts
-use Rattle.folds.proofs.fold_low.Reads as fold-low-reads
-use Rattle.folds.proofs.fold_plus.Reads as fold-plus-reads
-use Rattle.folds.proofs.halves.Reads as halves-reads
 
 abbrev Inv-loop : tie.InvT-loop
 Inv-loop a b top count evens v₀ r₀ n₀ e₀ j₀ v r n e j = Levelling a b top v₀ r₀ v r n e j

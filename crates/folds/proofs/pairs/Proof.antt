@@ -1,15 +1,8 @@
 -- `folds::pairs` meets its contract. Assumes nothing.
 use borrow.Author.Needs.{needs}
 use Rattle.folds_theory.proofs.Wholes.{First, first, pairs-done}
-use Rattle.group.proofs.zero.Reads as zero-reads
 use Rattle.folds.proofs.pairs.Statement.{statement}
 use Rattle.folds.proofs.pairs.Tie as tie
-use Rattle.folds.proofs.pairs.Reads as reads
-use Rattle.folds.proofs.pairs.Lts as lts
-use Rattle.folds.proofs.first_plus.Reads as first-plus-reads
-use Rattle.folds.proofs.levels.Reads as levels-reads
-use Rattle.folds.proofs.power.Reads as power-reads
-use Rattle.folds.proofs.total.Reads as total-reads
 
 -- what is known once n and e are there
 known : (c : tie.After-power2) → First (c .before .before .before .args .a) (c .before .before .before .args .b) (c .before .power .result) (c .power2 .result)

@@ -4,8 +4,6 @@ use native.Mathlib.Omega.{arith}
 use Rattle.layout_theory.proofs.Parameters.{shift-one}
 use Rattle.folds.proofs.power.Statement.{statement}
 use Rattle.folds.proofs.power.Tie as tie
-use Rattle.folds.proofs.power.Reads as reads
-use Rattle.folds.proofs.power.Lts as lts
 
 shl-result : tie.Need-shl-result
 shl-result c = search needs

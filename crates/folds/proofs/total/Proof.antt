@@ -4,9 +4,6 @@ use Prim.Native.Nat.{_-_}
 use Rattle.folds_theory.proofs.Gathers.{Totalling, total-start, total-step, total-done}
 use Rattle.folds.proofs.total.Statement.{statement}
 use Rattle.folds.proofs.total.Tie as tie
-use Rattle.folds.proofs.total.Reads as reads
-use Rattle.folds.proofs.total.Lts as lts
-use Rattle.std.proofs.num.wrapping_add_u8.Reads as wrapping-add-u8-reads
 
 abbrev Inv-loop : tie.InvT-loop
 Inv-loop start n v c₀ i₀ c i = Totalling start n v c i

@@ -3,12 +3,8 @@ use borrow.Author.Needs.{needs}
 use mathlib.Core.Path.{sym, _∙_}
 use native.Mathlib.Omega.{arith}
 use Rattle.folds_theory.proofs.Wholes.{with-room, without-room}
-use Rattle.group.proofs.zero.Reads as zero-reads
 use Rattle.folds.proofs.weighted.Statement.{statement}
 use Rattle.folds.proofs.weighted.Tie as tie
-use Rattle.folds.proofs.weighted.Reads as reads
-use Rattle.folds.proofs.weighted.Lts as lts
-use Rattle.folds.proofs.both.Reads as both-reads
 
 zero-requires : tie.Need-zero-requires
 zero-requires c κs = search needs

@@ -1,7 +1,7 @@
 -- `gray::digit` meets its contract: the Gray map, read. Assumes nothing.
 use borrow.Author.Needs.{needs}
 use mathlib.Core.Path.{_≡_, refl}
-use Prim.Native.Nat.{ℕ, zero, suc, _-_, _<_, _≤_}
+use Prim.Native.Nat.{ℕ, zero, suc, _-_, _<_}
 use native.Mathlib.Omega.{arith}
 use Rattle.words_theory.specs.Digits as digits
 use Rattle.gray.proofs.digit.Statement.{statement}

@@ -8,8 +8,6 @@ use Rattle.loops_theory.specs.Spread.{row}
 use Rattle.loops_theory.proofs.Laying.{Copying, copy-start, copy-step, length-row, byte-write, bytes-done}
 use Rattle.coding.proofs.weights.bytes.Statement.{statement}
 use Rattle.coding.proofs.weights.bytes.Tie as tie
-use Rattle.coding.proofs.weights.bytes.Reads as reads
-use Rattle.coding.proofs.weights.bytes.Lts as lts
 
 abbrev Inv-loop : tie.InvT-loop
 Inv-loop word at v₀ k n i₀ v i = Copying (row false n (drop at word)) v₀ k n v i

@@ -6,12 +6,8 @@ use native.Mathlib.Omega.{arith}
 use lib.ListN.{drop}
 use Rattle.loops_theory.specs.Spread.{row}
 use Rattle.loops_theory.proofs.Laying.{Copying, copy-start, copy-step, copy-done, length-row, digit-wrote}
-use Rattle.gray.proofs.digit.Reads as digit-reads
 use Rattle.coding.proofs.weights.digits.Statement.{statement}
 use Rattle.coding.proofs.weights.digits.Tie as tie
-use Rattle.coding.proofs.weights.digits.Reads as reads
-use Rattle.coding.proofs.weights.digits.Lts as lts
-use Rattle.coding.proofs.weights.every_other.Reads as every-other-reads
 
 abbrev Inv-loop : tie.InvT-loop
 Inv-loop word at v₀ k n m i₀ v i = Copying (row true n (drop at word)) v₀ k m v i

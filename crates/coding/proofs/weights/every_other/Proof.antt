@@ -5,8 +5,6 @@ use native.Mathlib.Omega.{arith}
 use Rattle.loops_theory.proofs.Laying.{masked}
 use Rattle.coding.proofs.weights.every_other.Statement.{statement}
 use Rattle.coding.proofs.weights.every_other.Tie as tie
-use Rattle.coding.proofs.weights.every_other.Reads as reads
-use Rattle.coding.proofs.weights.every_other.Lts as lts
 
 cast-odd : tie.Need-cast-odd
 cast-odd c = search needs

@@ -2,12 +2,8 @@
 use borrow.Author.Needs.{needs}
 use mathlib.Core.Path.{_∙_}
 use Rattle.loops_theory.proofs.Segments.{weights-sum}
-use Rattle.folds.proofs.weighted.Reads as weighted-reads
 use Rattle.coding.proofs.weights.message_sum.Statement.{statement}
 use Rattle.coding.proofs.weights.message_sum.Tie as tie
-use Rattle.coding.proofs.weights.message_sum.Reads as reads
-use Rattle.coding.proofs.weights.message_sum.Lts as lts
-use Rattle.coding.proofs.weights.message_weights.Reads as message-weights-reads
 
 message-weights-requires : tie.Need-message-weights-requires
 message-weights-requires c κs = search needs

@@ -9,10 +9,6 @@ use Rattle.blocks_theory.specs.Blocks.{even, level}
 use Rattle.loops_theory.specs.Spread.{spread}
 use Rattle.coding.proofs.weights.message_weights.Statement.{statement}
 use Rattle.coding.proofs.weights.message_weights.Tie as tie
-use Rattle.coding.proofs.weights.message_weights.Reads as reads
-use Rattle.coding.proofs.weights.message_weights.Lts as lts
-use Rattle.coding.proofs.weights.pairs.Reads as pairs-reads
-use Rattle.coding.proofs.weights.singles.Reads as singles-reads
 
 slice-aggregate-pairs : tie.Need-slice-aggregate-pairs
 slice-aggregate-pairs c = search needs

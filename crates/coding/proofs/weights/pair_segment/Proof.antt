@@ -4,10 +4,6 @@ use native.Mathlib.Omega.{arith}
 use Rattle.loops_theory.proofs.Laying.{pairs-none, pairs-some}
 use Rattle.coding.proofs.weights.pair_segment.Statement.{statement}
 use Rattle.coding.proofs.weights.pair_segment.Tie as tie
-use Rattle.coding.proofs.weights.pair_segment.Reads as reads
-use Rattle.coding.proofs.weights.pair_segment.Lts as lts
-use Rattle.coding.proofs.weights.clear.Reads as clear-reads
-use Rattle.coding.proofs.weights.digits.Reads as digits-reads
 
 mul-clear : tie.Need-mul-clear
 mul-clear c = search needs

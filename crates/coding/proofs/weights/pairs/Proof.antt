@@ -5,10 +5,6 @@ use native.Mathlib.Omega.{arith}
 use Rattle.loops_theory.proofs.Laying.{Pairing, Segment, pairing-start, pairing-asks, pairing-step, pairing-done}
 use Rattle.coding.proofs.weights.pairs.Statement.{statement}
 use Rattle.coding.proofs.weights.pairs.Tie as tie
-use Rattle.coding.proofs.weights.pairs.Reads as reads
-use Rattle.coding.proofs.weights.pairs.Lts as lts
-use Rattle.coding.proofs.weights.pair_segment.Reads as pair-segment-reads
-use Rattle.coding.proofs.weights.power.Reads as power-reads
 
 abbrev Inv-loop : tie.InvT-loop
 Inv-loop a b count part word v₀ p₀ e₀ at₀ j₀ v p e at j = Pairing a b part word v p e at j

@@ -4,8 +4,6 @@ use native.Mathlib.Omega.{arith}
 use Rattle.layout_theory.proofs.Parameters.{shift-one}
 use Rattle.coding.proofs.weights.power.Statement.{statement}
 use Rattle.coding.proofs.weights.power.Tie as tie
-use Rattle.coding.proofs.weights.power.Reads as reads
-use Rattle.coding.proofs.weights.power.Lts as lts
 
 shl-result : tie.Need-shl-result
 shl-result c = search needs

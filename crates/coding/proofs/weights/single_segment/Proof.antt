@@ -4,10 +4,6 @@ use native.Mathlib.Omega.{arith}
 use Rattle.loops_theory.proofs.Laying.{single-done}
 use Rattle.coding.proofs.weights.single_segment.Statement.{statement}
 use Rattle.coding.proofs.weights.single_segment.Tie as tie
-use Rattle.coding.proofs.weights.single_segment.Reads as reads
-use Rattle.coding.proofs.weights.single_segment.Lts as lts
-use Rattle.coding.proofs.weights.bytes.Reads as bytes-reads
-use Rattle.coding.proofs.weights.clear.Reads as clear-reads
 
 clear-requires : tie.Need-clear-requires
 clear-requires c κs = search needs

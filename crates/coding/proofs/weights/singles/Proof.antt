@@ -5,11 +5,6 @@ use Prim.Native.Nat.{_+_, _-_}
 use Rattle.loops_theory.proofs.Laying.{Singling, SegmentAsks, RestAsks, SinglesRoom, room-for, singling-start, singling-asks, singling-step, singling-end, singling-done}
 use Rattle.coding.proofs.weights.singles.Statement.{statement}
 use Rattle.coding.proofs.weights.singles.Tie as tie
-use Rattle.coding.proofs.weights.singles.Reads as reads
-use Rattle.coding.proofs.weights.singles.Lts as lts
-use Rattle.coding.proofs.weights.bytes.Reads as bytes-reads
-use Rattle.coding.proofs.weights.clear.Reads as clear-reads
-use Rattle.coding.proofs.weights.single_segment.Reads as single-segment-reads
 
 abbrev Inv-loop : tie.InvT-loop
 Inv-loop a b count part word v₀ e start n₀ at₀ i₀ v n at i = Singling a b start word v₀ v n at i
