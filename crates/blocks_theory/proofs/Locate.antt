@@ -11,7 +11,7 @@ use Rattle.group_theory.specs.Group.{Modulus, one, two, four, radix, moduli, Va
 use Rattle.group_theory.specs.Sign.{lead}
 use Rattle.group_theory.proofs.Laws.{valid-element, times-one, times-three, negative-negative}
 use Rattle.group_theory.proofs.Numbers.{element-zero, size-pos}
-use Rattle.group_theory.proofs.Signs.{Lead, even, plus, minus, lead-cases, lead-negative, negative-under, negative-unit-four}
+use Rattle.group_theory.proofs.Signs.{Lead, even, plus, minus, lead-cases, lead-negative, negative-zero-first, negative-unit-four}
 use Rattle.group_theory.proofs.Fill.{length-moduli, moduli-two, moduli-four, moduli-one}
 use Rattle.layout_theory.specs.Layout.{from, singles, pairs, elementAt, placeOf}
 use Rattle.layout_theory.specs.Parts.{Located}
@@ -107,7 +107,7 @@ unfolding zeros
 negative-alone [] i h e = absurd (omega arith)
 negative-alone (m ∷ ms) zero h e = subst (λ (k : Modulus). negative (k ∷ ms) (1 ∷ zeros ms) ≡ 3 ∷ zeros ms) (sym e) (negative-unit-four ms)
 negative-alone (m ∷ ms) (suc i) h e =
-    negative-under m ms (alone ms i 1) ∙ ap {B = List ℕ} (λ (r : List ℕ). 0 ∷ r) (negative-alone ms i (omega arith) e)
+    negative-zero-first m ms (alone ms i 1) ∙ ap {B = List ℕ} (λ (r : List ℕ). 0 ∷ r) (negative-alone ms i (omega arith) e)
 
 -- ---- places by index
 -- z, the element of sign 1 at index k, and −z stand at p and before it

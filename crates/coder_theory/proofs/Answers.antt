@@ -18,7 +18,7 @@ use Rattle.shortened_theory.specs.Code.{shortenedElementAt}
 use Rattle.shortened_theory.proofs.Filling.{old-sum}
 use Rattle.coder_theory.specs.State.{fresh, isClosed, isUnfit, isNotAllowed, isUsable, moduliIn, placesIn, messageIn, elementIn}
 use Rattle.coder_theory.specs.Reasons.{Reason, accepted, firstReason, notAdmitted, notAllowed, outside}
-use Rattle.coder_theory.specs.Calls.{ifAccepted, stateReasons, inForce, opened, layoutReasons, refusedElement, elementAnswer, ifUsable}
+use Rattle.coder_theory.specs.Calls.{ifAccepted, stateReasons, inForce, openReasons, opened, layoutReasons, refusedElement, elementAnswer, ifUsable}
 use Rattle.coder_theory.specs.declared.Record.{Record}
 use Rattle.coder_theory.specs.declared.ElementAnswer.{ElementAnswer}
 use Rattle.coder_theory.proofs.Firsts.{first-yes, first-no, first-end}
@@ -31,16 +31,24 @@ numberOf x = x .number
 pub opened-yes : (t r s : ℕ) → admits t (inForce t r) ≡ true → allows t (inForce t r) s ≡ true
     → opened t r s ≡ record { refusal = 0; «record» = fresh t (inForce t r) s }
 unfolding opened
-opened-yes t r s h k = rw (first-no (notAdmitted t (inForce t r)) (notAllowed t (inForce t r) s ∷ []) (ap not h), first-no (notAllowed t (inForce t r) s) [] (ap not k), first-end)
+opened-yes t r s h k =
+    let e : firstReason (openReasons t r s) ≡ accepted =
+    first-no (notAdmitted t (inForce t r)) (notAllowed t (inForce t r) s ∷ []) (ap not h) ∙ first-no (notAllowed t (inForce t r) s) [] (ap not k) ∙ first-end in
+    rw e
 
 pub opened-not-allowed : (t r s : ℕ) → admits t (inForce t r) ≡ true → allows t (inForce t r) s ≡ false
     → opened t r s ≡ record { refusal = 10; «record» = fresh 0 0 0 }
 unfolding opened
-opened-not-allowed t r s h k = rw (first-no (notAdmitted t (inForce t r)) (notAllowed t (inForce t r) s ∷ []) (ap not h), first-yes (notAllowed t (inForce t r) s) [] (ap not k))
+opened-not-allowed t r s h k =
+    let e : firstReason (openReasons t r s) ≡ notAllowed t (inForce t r) s =
+    first-no (notAdmitted t (inForce t r)) (notAllowed t (inForce t r) s ∷ []) (ap not h) ∙ first-yes (notAllowed t (inForce t r) s) [] (ap not k) in
+    rw e
 
 pub opened-no : (t r s : ℕ) → admits t (inForce t r) ≡ false → opened t r s ≡ record { refusal = 1; «record» = fresh 0 0 0 }
 unfolding opened
-opened-no t r s h = rw (first-yes (notAdmitted t (inForce t r)) (notAllowed t (inForce t r) s ∷ []) (ap not h))
+opened-no t r s h =
+    let e : firstReason (openReasons t r s) ≡ notAdmitted t (inForce t r) = first-yes (notAdmitted t (inForce t r)) (notAllowed t (inForce t r) s ∷ []) (ap not h) in
+    rw e
 
 -- ---- the layout
 -- the answer is the refusal's, or the element, by the first reason's number

@@ -10,6 +10,7 @@ use lib.Dec.{eqb, ltb}
 use lib.ListN.{length, take}
 use Rattle.group_theory.specs.Group.{number, moduli}
 use Rattle.group_theory.specs.Sign.{allZero}
+use Rattle.layout_theory.specs.Choice.{pick}
 use Rattle.layout_theory.specs.Parameters.{placesOf}
 use Rattle.layout_theory.specs.Calls.{shapeFor}
 use Rattle.layout_theory.specs.declared.Shape.{Shape}
@@ -28,6 +29,9 @@ use Rattle.coder_theory.specs.declared.TestAnswer.{TestAnswer}
 use Rattle.coder_theory.proofs.Firsts.{first-yes, first-no, first-end, first-before, first-past, accepted-none, no-place}
 use Rattle.coder_theory.proofs.States.{Clear, state-number, state-clear, usable-true, true-usable, or-false}
 use Rattle.coder_theory.proofs.Answers.{usable-length}
+
+pub if-accepted : {A : Type 0} (n : ℕ) (x y : A) → n ≡ 0 → ifAccepted n x y ≡ x
+if-accepted n x y h = rw h
 
 pub if-refused : {A : Type 0} (n : ℕ) (x y : A) → n ≢ 0 → ifAccepted n x y ≡ y
 if-refused zero x y h = absurd (h refl)
@@ -207,12 +211,12 @@ shown-refused rec w h = if-refused _ _ _ h
 
 pub shown-other : (rec : Record) (w : List ℕ) → firstReason (wordReasons rec w) .number ≡ 0 → isCodewordIn rec w ≡ false → shown rec w ≡ []
 unfolding shown
-shown-other rec w e y = rw (e, y)
+shown-other rec w e y = if-accepted _ _ _ e ∙ ap (λ (b : Bool). pick b (take (messageIn rec) w) []) y
 
 pub shown-codeword : (rec : Record) (w : List ℕ) → firstReason (wordReasons rec w) .number ≡ 0 → isCodewordIn rec w ≡ true
     → shown rec w ≡ take (messageIn rec) w
 unfolding shown
-shown-codeword rec w e y = rw (e, y)
+shown-codeword rec w e y = if-accepted _ _ _ e ∙ ap (λ (b : Bool). pick b (take (messageIn rec) w) []) y
 
 module _ (rec : Record) (w : List ℕ) (a : TestAnswer) (e : a ≡ codewordAnswer rec w) where
   yes-by : a .yes ≡ codewordAnswer rec w .yes

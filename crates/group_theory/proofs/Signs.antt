@@ -250,11 +250,11 @@ unit-sign (four ∷ ms) (suc (suc zero) ∷ e) h = and-false (eqb (lead ms e) 3)
 unit-sign (four ∷ ms) (suc (suc (suc n)) ∷ e) h = refl
 
 -- ---- the negative under one more component in front, as the units have it
-pub negative-under : (m : Modulus) (ms : List Modulus) (e : List ℕ) → negative (m ∷ ms) (0 ∷ e) ≡ 0 ∷ negative ms e
+pub negative-zero-first : (m : Modulus) (ms : List Modulus) (e : List ℕ) → negative (m ∷ ms) (0 ∷ e) ≡ 0 ∷ negative ms e
 unfolding negative
-negative-under one ms e = refl
-negative-under two ms e = refl
-negative-under four ms e = refl
+negative-zero-first one ms e = refl
+negative-zero-first two ms e = refl
+negative-zero-first four ms e = refl
 
 pub negative-unit-two : (ms : List Modulus) → negative (two ∷ ms) (1 ∷ zeros ms) ≡ 1 ∷ zeros ms
 unfolding negative

@@ -13,7 +13,7 @@ use Rattle.group_theory.proofs.Numbers.{number-element, element-zero, number-ze
 use Rattle.group_theory.proofs.Signs.{lead-zeros, allZero-zeros, zeros-allZero, agree, true-T}
 use Rattle.layout_theory.specs.Choice.{zeroUnless, oneIf}
 use Rattle.layout_theory.specs.Parts.{signOf}
-use Rattle.layout_theory.proofs.Sums.{sumTo, sumTo-ext, sumTo-add, sumTo-gate, sumTo-ones, below, below-one, below-two, below-four, rest}
+use Rattle.layout_theory.proofs.Sums.{sumTo, sumTo-ext, sumTo-add, sumTo-unless, sumTo-ones, below, below-one, below-two, below-four, rest}
 use Rattle.layout_theory.proofs.Cover.{ofSign}
 
 -- of the elements with a number below x: those with the sign of the part, and those of them that are units
@@ -124,7 +124,7 @@ module _ (p : Bool) (ms : List Modulus) where
           let a = sumTo-ext (λ y. each (element ms y)) (λ y. f y + (f y + zeroUnless p 1)) v (λ y k. omega (arith, plain p .0, plain p .1)) in
           let b = sumTo-add f (λ y. f y + zeroUnless p 1) v in
           let c = sumTo-add f (λ y. zeroUnless p 1) v in
-          let d = sumTo-gate p (λ y. 1) v ∙ ap (zeroUnless p) (sumTo-ones v) in
+          let d = sumTo-unless p (λ y. 1) v ∙ ap (zeroUnless p) (sumTo-ones v) in
           omega arith
 
       go : (d : ℕ) → d < 4
@@ -155,7 +155,7 @@ module _ (p : Bool) (ms : List Modulus) where
           ∙ ap (λ (n : ℕ). unitsLed p ms v + n)
           (sumTo-ext (λ y. zeroUnless (allZero (element ms y)) (has (element ms y))) (λ y. zeroUnless (eqb (signOf p) 0) (oneIf (allZero (element ms y)))) v
           (λ y j. zero-sign p ms (element ms y) (valid-element ms y))
-          ∙ sumTo-gate (eqb (signOf p) 0) (λ y. oneIf (allZero (element ms y))) v
+          ∙ sumTo-unless (eqb (signOf p) 0) (λ y. oneIf (allZero (element ms y))) v
           ∙ ap (zeroUnless (eqb (signOf p) 0)) (zero-below ms v k))
 
       go : (d : ℕ) → d < 2
@@ -190,7 +190,7 @@ module _ (p : Bool) (ms : List Modulus) where
           (λ y j. omega (arith, plain p (element ms y)))
           ∙ sumTo-add (λ y. hasUnit (element ms y)) (λ y. zeroUnless p (oneIf (allZero (element ms y)))) v
           ∙ ap (λ (n : ℕ). unitsLed p ms v + n)
-          (sumTo-gate p (λ y. oneIf (allZero (element ms y))) v ∙ ap (zeroUnless p) (zero-below ms v k))
+          (sumTo-unless p (λ y. oneIf (allZero (element ms y))) v ∙ ap (zeroUnless p) (zero-below ms v k))
 
       go : (d : ℕ) → d < 4
           → below each ms v + rest (λ e. zeroUnless (isUnit e) (oneIf (eqb (lead (four ∷ ms) e) (signOf p)))) ms d v

@@ -12,7 +12,7 @@ use Rattle.group_theory.specs.Group.{Modulus, one, two, four, radix, Valid, zer
 use Rattle.group_theory.specs.Sign.{same, allZero, isUnit, lead}
 use Rattle.group_theory.proofs.Laws.{valid-zeros, valid-negative, valid-element, sum-negative, negative-unique, negative-negative, negative-zeros}
 use Rattle.group_theory.proofs.Numbers.{element-number, number-element, number-lt, number-zeros, number-pos}
-use Rattle.group_theory.proofs.Signs.{true-T, same-refl, same-eq, same-ne, same-neg, agree, Lead, even, plus, minus, lead-cases, lead-zeros, even-own, own-even, lead-negative, allZero-same, zeros-unit, isUnit3, unit3, unit-sign, negative-under, negative-unit-four}
+use Rattle.group_theory.proofs.Signs.{true-T, same-refl, same-eq, same-ne, same-neg, agree, Lead, even, plus, minus, lead-cases, lead-zeros, even-own, own-even, lead-negative, allZero-same, zeros-unit, isUnit3, unit3, unit-sign, negative-zero-first, negative-unit-four}
 use Rattle.layout_theory.specs.Choice.{zeroUnless, oneIf}
 use Rattle.layout_theory.specs.Layout.{from, keep, Slot, single, pair, elements, inSingles, singles, inPairs, pairs, zeroFirst, units, message, slots, places}
 use Rattle.layout_theory.proofs.Lists.{count, count-append, All, all-keep, keep-agree, count-keep}
@@ -130,11 +130,11 @@ count-message ms s h =
     ∙ ap₂ _+_ (count-keep (inPairs ms) (negative ms s) (elements ms)) (count-keep (inPairs ms) s (elements ms)))
 
 -- ---- the check part: the units, and the negatives of those of modulus 4
-pub places-under : (m : Modulus) (ms : List Modulus) (sl : List Slot) → places (m ∷ ms) (map zeroFirst sl) ≡ map (λ (e : List ℕ). 0 ∷ e) (places ms sl)
+pub places-zero-first : (m : Modulus) (ms : List Modulus) (sl : List Slot) → places (m ∷ ms) (map zeroFirst sl) ≡ map (λ (e : List ℕ). 0 ∷ e) (places ms sl)
 unfolding places
-places-under m ms [] = refl
-places-under m ms (single e ∷ sl) = ap {B = List (List ℕ)} (λ r. (0 ∷ e) ∷ r) (places-under m ms sl)
-places-under m ms (pair z ∷ sl) = rw (negative-under m ms z) (ap {B = List (List ℕ)} (λ r. (0 ∷ negative ms z) ∷ (0 ∷ z) ∷ r) (places-under m ms sl))
+places-zero-first m ms [] = refl
+places-zero-first m ms (single e ∷ sl) = ap {B = List (List ℕ)} (λ r. (0 ∷ e) ∷ r) (places-zero-first m ms sl)
+places-zero-first m ms (pair z ∷ sl) = rw (negative-zero-first m ms z) (ap {B = List (List ℕ)} (λ r. (0 ∷ negative ms z) ∷ (0 ∷ z) ∷ r) (places-zero-first m ms sl))
 
 -- the elements of the check places, component by component
 abbrev pub unitPlaces : Modulus → List ℕ → List (List ℕ) → List (List ℕ)
@@ -145,19 +145,19 @@ unitPlaces four z later = (3 ∷ z) ∷ (1 ∷ z) ∷ later
 pub places-units : (m : Modulus) (ms : List Modulus)
     → places (m ∷ ms) (units (m ∷ ms)) ≡ unitPlaces m (zeros ms) (map (λ (e : List ℕ). 0 ∷ e) (places ms (units ms)))
 unfolding units places
-places-units one ms = places-under one ms (units ms)
-places-units two ms = ap {B = List (List ℕ)} (λ r. (1 ∷ zeros ms) ∷ r) (places-under two ms (units ms))
+places-units one ms = places-zero-first one ms (units ms)
+places-units two ms = ap {B = List (List ℕ)} (λ r. (1 ∷ zeros ms) ∷ r) (places-zero-first two ms (units ms))
 places-units four ms =
-    rw (negative-unit-four ms) (ap {B = List (List ℕ)} (λ r. (3 ∷ zeros ms) ∷ (1 ∷ zeros ms) ∷ r) (places-under four ms (units ms)))
+    rw (negative-unit-four ms) (ap {B = List (List ℕ)} (λ r. (3 ∷ zeros ms) ∷ (1 ∷ zeros ms) ∷ r) (places-zero-first four ms (units ms)))
 
-count-under : (x : ℕ) (e : List ℕ) (xs : List (List ℕ)) → count (same (x ∷ e)) (map (λ (r : List ℕ). 0 ∷ r) xs) ≡ zeroUnless (eqb x 0) (count (same e) xs)
+count-zero-first : (x : ℕ) (e : List ℕ) (xs : List (List ℕ)) → count (same (x ∷ e)) (map (λ (r : List ℕ). 0 ∷ r) xs) ≡ zeroUnless (eqb x 0) (count (same e) xs)
 unfolding count same
-count-under x e [] = go (eqb x 0)
+count-zero-first x e [] = go (eqb x 0)
   where
     go : (b : Bool) → 0 ≡ zeroUnless b 0
     go true = refl
     go false = refl
-count-under x e (y ∷ xs) = go (eqb x 0) (count-under x e xs)
+count-zero-first x e (y ∷ xs) = go (eqb x 0) (count-zero-first x e xs)
   where
     go : (b : Bool) → count (same (x ∷ e)) (map (λ (r : List ℕ). 0 ∷ r) xs) ≡ zeroUnless b (count (same e) xs)
         → oneIf (b && same e y) + count (same (x ∷ e)) (map (λ (r : List ℕ). 0 ∷ r) xs) ≡ zeroUnless b (oneIf (same e y) + count (same e) xs)
@@ -171,7 +171,7 @@ count-units [] (x ∷ e) h = absurd h
 count-units (m ∷ ms) [] h = absurd h
 count-units (m ∷ ms) (x ∷ e) h =
     ap (count (same (x ∷ e))) (places-units m ms)
-    ∙ go m x (h .0) (count-under x e (places ms (units ms))) (count-units ms e (h .1)) (ap oneIf (allZero-same ms e (h .1)))
+    ∙ go m x (h .0) (count-zero-first x e (places ms (units ms))) (count-units ms e (h .1)) (ap oneIf (allZero-same ms e (h .1)))
   where
     Later : Type 0
     Later = count (same e) (places ms (units ms)) ≡ oneIf (isUnit e) + oneIf (isUnit3 e)

@@ -71,8 +71,8 @@ at-check ms i =
 abbrev pub alone : List Modulus → ℕ → ℕ → List ℕ
 alone ms i x = set (zeros ms) i x
 
-under-zero : (m : Modulus) (ms : List Modulus) (i x : ℕ) → 0 ∷ alone ms i x ≡ alone (m ∷ ms) (suc i) x
-under-zero m ms i x = sym (ap (λ (r : List ℕ). set r (suc i) x) (zeros-cons m ms))
+zero-first-alone : (m : Modulus) (ms : List Modulus) (i x : ℕ) → 0 ∷ alone ms i x ≡ alone (m ∷ ms) (suc i) x
+zero-first-alone m ms i x = sym (ap (λ (r : List ℕ). set r (suc i) x) (zeros-cons m ms))
 
 -- one component further
 later : (m : Modulus) (ms : List Modulus) (k i x : ℕ) → getD (places ms (units ms)) k (zeros ms) ≡ alone ms i x
@@ -81,7 +81,7 @@ later m ms k i x e =
     ap (λ (d : List ℕ). getD (map (λ (e : List ℕ). 0 ∷ e) (places ms (units ms))) k d) (zeros-cons m ms)
     ∙ List·getD-map (λ (e : List ℕ). 0 ∷ e) (places ms (units ms)) k (zeros ms)
     ∙ ap {B = List ℕ} (λ (r : List ℕ). 0 ∷ r) e
-    ∙ under-zero m ms i x
+    ∙ zero-first-alone m ms i x
 
 first-alone : (m : Modulus) (ms : List Modulus) (x : ℕ) → x ∷ zeros ms ≡ alone (m ∷ ms) 0 x
 first-alone m ms x = sym (ap (λ (r : List ℕ). set r 0 x) (zeros-cons m ms))

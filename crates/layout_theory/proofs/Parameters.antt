@@ -113,18 +113,18 @@ pub known-for : (t r : ℕ) (s : Shape) → s ≡ shapeFor t r → Admitted t r 
 unfolding shapeFor
 known-for t r s e h = record {
   admitted = h;
-  a = field (λ (x : Shape). x .a) ∙ open-gate (binaryOf t r);
-  b = field (λ (x : Shape). x .b) ∙ open-gate (quaternaryOf t r);
-  places = field (λ (x : Shape). x .places) ∙ open-gate (placesOf t);
-  binary = field (λ (x : Shape). x .binary) ∙ open-gate (placesOf r);
-  message = field (λ (x : Shape). x .message) ∙ open-gate (messageOf t);
+  a = field (λ (x : Shape). x .a) ∙ kept-number (binaryOf t r);
+  b = field (λ (x : Shape). x .b) ∙ kept-number (quaternaryOf t r);
+  places = field (λ (x : Shape). x .places) ∙ kept-number (placesOf t);
+  binary = field (λ (x : Shape). x .binary) ∙ kept-number (placesOf r);
+  message = field (λ (x : Shape). x .message) ∙ kept-number (messageOf t);
 }
   where
     field : (f : Shape → ℕ) → f s ≡ f (shapeFor t r)
     field f = ap f e
 
-    open-gate : (n : ℕ) → zeroUnless (admits t r) n ≡ n
-    open-gate n = ap (λ (b : Bool). zeroUnless b n) (admitted-admits t r h)
+    kept-number : (n : ℕ) → zeroUnless (admits t r) n ≡ n
+    kept-number n = ap (λ (b : Bool). zeroUnless b n) (admitted-admits t r h)
 
 -- a shape with a place is that of admitted parameters
 pub known : (t r : ℕ) (s : Shape) → s ≡ shapeFor t r → 0 < s .places → Known t r s

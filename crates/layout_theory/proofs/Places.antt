@@ -17,7 +17,7 @@ use lib.ListN.{length, getD, List·getD-eq-default}
 use Rattle.group_theory.specs.Group.{Modulus, one, two, four, Valid, zeros, size}
 use Rattle.group_theory.specs.Sign.{same, isUnit, lead}
 use Rattle.group_theory.proofs.Laws.{radix-pos, valid-zeros, valid-negative}
-use Rattle.group_theory.proofs.Signs.{true-T, both, not-true, same-refl, same-eq, even-own, negative-under, negative-unit-two}
+use Rattle.group_theory.proofs.Signs.{true-T, both, not-true, same-refl, same-eq, even-own, negative-zero-first, negative-unit-two}
 use Rattle.layout_theory.specs.Choice.{oneIf}
 use Rattle.layout_theory.specs.Layout.{keep, Slot, single, pair, elements, singles, pairs, zeroFirst, units, message, slots, places, elementAt, placeFrom, placeOf}
 use Rattle.layout_theory.specs.Claims.{Good}
@@ -42,21 +42,21 @@ good-pairs : (ms : List Modulus) (xs : List (List ℕ)) → All (λ x. Valid ms 
 good-pairs ms [] h = tt
 good-pairs ms (x ∷ xs) h = (h .0 .0, sign-of ms 1 x (h .0 .1), good-pairs ms xs (h .1))
 
-good-under : (m : Modulus) (ms : List Modulus) (sl : List Slot) → Good ms sl → Good (m ∷ ms) (map zeroFirst sl)
+good-zero-first : (m : Modulus) (ms : List Modulus) (sl : List Slot) → Good ms sl → Good (m ∷ ms) (map zeroFirst sl)
 unfolding lead
-good-under m ms [] g = tt
-good-under m ms (single e ∷ sl) g =
-    ((radix-pos m, g .0), negative-under m ms e ∙ ap {B = List ℕ} (λ (r : List ℕ). 0 ∷ r) (g .1), good-under m ms sl (g .2))
-good-under one ms (pair z ∷ sl) g = ((radix-pos one, g .0), g .1, good-under one ms sl (g .2))
-good-under two ms (pair z ∷ sl) g = ((radix-pos two, g .0), g .1, good-under two ms sl (g .2))
-good-under four ms (pair z ∷ sl) g = ((radix-pos four, g .0), g .1, good-under four ms sl (g .2))
+good-zero-first m ms [] g = tt
+good-zero-first m ms (single e ∷ sl) g =
+    ((radix-pos m, g .0), negative-zero-first m ms e ∙ ap {B = List ℕ} (λ (r : List ℕ). 0 ∷ r) (g .1), good-zero-first m ms sl (g .2))
+good-zero-first one ms (pair z ∷ sl) g = ((radix-pos one, g .0), g .1, good-zero-first one ms sl (g .2))
+good-zero-first two ms (pair z ∷ sl) g = ((radix-pos two, g .0), g .1, good-zero-first two ms sl (g .2))
+good-zero-first four ms (pair z ∷ sl) g = ((radix-pos four, g .0), g .1, good-zero-first four ms sl (g .2))
 
 good-units : (ms : List Modulus) → Good ms (units ms)
 unfolding units lead
 good-units [] = tt
-good-units (one ∷ ms) = good-under one ms (units ms) (good-units ms)
-good-units (two ∷ ms) = ((omega arith, valid-zeros ms), negative-unit-two ms, good-under two ms (units ms) (good-units ms))
-good-units (four ∷ ms) = ((omega arith, valid-zeros ms), refl, good-under four ms (units ms) (good-units ms))
+good-units (one ∷ ms) = good-zero-first one ms (units ms) (good-units ms)
+good-units (two ∷ ms) = ((omega arith, valid-zeros ms), negative-unit-two ms, good-zero-first two ms (units ms) (good-units ms))
+good-units (four ∷ ms) = ((omega arith, valid-zeros ms), refl, good-zero-first four ms (units ms) (good-units ms))
 
 pub good-slots : (ms : List Modulus) → Good ms (slots ms)
 unfolding slots message pairs

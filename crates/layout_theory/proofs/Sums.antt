@@ -27,11 +27,11 @@ sumTo-ones zero = refl
 sumTo-ones (suc n) = let i = sumTo-ones n in omega arith
 
 -- a test that does not depend on the number
-pub sumTo-gate : (b : Bool) (f : ℕ → ℕ) (n : ℕ) → sumTo (λ y. zeroUnless b (f y)) n ≡ zeroUnless b (sumTo f n)
+pub sumTo-unless : (b : Bool) (f : ℕ → ℕ) (n : ℕ) → sumTo (λ y. zeroUnless b (f y)) n ≡ zeroUnless b (sumTo f n)
 unfolding sumTo
-sumTo-gate true f n = refl
-sumTo-gate false f zero = refl
-sumTo-gate false f (suc n) = let i = sumTo-gate false f n in omega arith
+sumTo-unless true f n = refl
+sumTo-unless false f zero = refl
+sumTo-unless false f (suc n) = let i = sumTo-unless false f n in omega arith
 
 -- ---- blocks of two and of four
 sumTo-two : (f : ℕ → ℕ) (n : ℕ) → sumTo f (2 * n) ≡ sumTo (λ y. f (0 + 2 * y) + f (1 + 2 * y)) n

@@ -35,17 +35,17 @@ of-pairs : (xs : List (List ℕ)) → (singleSlots (map pair xs) ≡ 0) × (pair
 of-pairs [] = (refl, refl)
 of-pairs (x ∷ xs) = let i = of-pairs xs in (i .0, ap suc (i .1))
 
-of-under : (sl : List Slot) → (singleSlots (map zeroFirst sl) ≡ singleSlots sl) × (pairSlots (map zeroFirst sl) ≡ pairSlots sl)
-of-under [] = (refl, refl)
-of-under (single e ∷ sl) = let i = of-under sl in (ap suc (i .0), i .1)
-of-under (pair z ∷ sl) = let i = of-under sl in (i .0, ap suc (i .1))
+kinds-zero-first : (sl : List Slot) → (singleSlots (map zeroFirst sl) ≡ singleSlots sl) × (pairSlots (map zeroFirst sl) ≡ pairSlots sl)
+kinds-zero-first [] = (refl, refl)
+kinds-zero-first (single e ∷ sl) = let i = kinds-zero-first sl in (ap suc (i .0), i .1)
+kinds-zero-first (pair z ∷ sl) = let i = kinds-zero-first sl in (i .0, ap suc (i .1))
 
 of-units : (ms : List Modulus) → (singleSlots (units ms) ≡ twos ms) × (pairSlots (units ms) ≡ fours ms)
 unfolding units
 of-units [] = (refl, refl)
-of-units (one ∷ ms) = let i = of-units ms in let u = of-under (units ms) in (u .0 ∙ i .0, u .1 ∙ i .1)
-of-units (two ∷ ms) = let i = of-units ms in let u = of-under (units ms) in (ap suc (u .0 ∙ i .0), u .1 ∙ i .1)
-of-units (four ∷ ms) = let i = of-units ms in let u = of-under (units ms) in (u .0 ∙ i .0, ap suc (u .1 ∙ i .1))
+of-units (one ∷ ms) = let i = of-units ms in let u = kinds-zero-first (units ms) in (u .0 ∙ i .0, u .1 ∙ i .1)
+of-units (two ∷ ms) = let i = of-units ms in let u = kinds-zero-first (units ms) in (ap suc (u .0 ∙ i .0), u .1 ∙ i .1)
+of-units (four ∷ ms) = let i = of-units ms in let u = kinds-zero-first (units ms) in (u .0 ∙ i .0, ap suc (u .1 ∙ i .1))
 
 of-slots : (ms : List Modulus)
     → (singleSlots (slots ms) ≡ length (singles ms) + twos ms) × (pairSlots (slots ms) ≡ length (pairs ms) + fours ms)

@@ -55,8 +55,8 @@ module _ (t r : ℕ) (s : Shape) (k : Known t r s) where
   over-front f old = ap₂ (λ (ms : List Modulus) (n : ℕ). f ms ++ drop n old) (moduli-known t r s k) (k .places)
 
 -- what the weights ask of the numbers of a shape
-pub laid : (t r : ℕ) (s : Shape) (n : ℕ) → Known t r s → s .message ≤ n → HoldsMessage (s .a) (s .b) (s .places + 1) (s .binary - s .a) n
-laid t r s n k h =
+pub holds-message : (t r : ℕ) (s : Shape) (n : ℕ) → Known t r s → s .message ≤ n → HoldsMessage (s .a) (s .b) (s .places + 1) (s .binary - s .a) n
+holds-message t r s n k h =
     let z = sizes-known t r s k in
     let m = k .admitted .most in
     let w = k .admitted .within in

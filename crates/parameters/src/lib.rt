@@ -1,9 +1,9 @@
-// The parameters: whether t and r are admitted, whether s is allowed with them, and the numbers of their
-// code. What each function answers is defined in crate layout_theory, specs/Parameters.antt and
-// Calls.antt, and in crate shortened_theory, specs/Allowed.antt.
+// The parameters: whether t and r are admitted, whether s is allowed with them, the numbers of their
+// code, and whether a number is a place. What each function answers is defined in crate layout_theory,
+// specs/Parameters.antt and Calls.antt, and in crate shortened_theory, specs/Allowed.antt.
 ghost use mathlib.Core.Path.{_≡_};
 ghost use mathlib.Core.Bool.{_&&_};
-ghost use lib.Dec.{ltb};
+ghost use lib.Dec.{leb, ltb};
 ghost use Rattle.layout_theory.specs.Parameters.{admits};
 ghost use Rattle.layout_theory.specs.Calls.{shapeFor};
 ghost use Rattle.shortened_theory.specs.Allowed.{endsWhole};
@@ -79,4 +79,11 @@ fn ends(part: u32, message: u32, s: u32) -> bool
         return s < message;
     }
     false
+}
+
+// Whether p is one of n places.
+pub fn is_place(n: u32, p: u32) -> bool
+    ensures { λ x. ⌜ x ≡ (leb 1 p && leb p n) ⌝ }
+{
+    if p == 0 { false } else { p <= n }
 }

@@ -32,7 +32,7 @@ pub fn width(t: u32, r: u32, place: u32) -> u32
 {
     let s = parameters::shape_of(t, r);
     let n = s.places;
-    if ones::is_place(n, place) {
+    if parameters::is_place(n, place) {
         return place::width_of(s, (place - 1) as usize);
     }
     0
@@ -63,8 +63,8 @@ pub fn third(t: u32, r: u32, i: u32, j: u32) -> u32
 {
     let s = parameters::shape_of(t, r);
     let n = s.places;
-    if ones::is_place(n, i) {
-        if ones::is_place(n, j) {
+    if parameters::is_place(n, i) {
+        if parameters::is_place(n, j) {
             if i != j {
                 return ones::third_of(t, r, s, i, j);
             }

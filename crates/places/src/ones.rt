@@ -1,7 +1,7 @@
 // The third place of two places, told from their elements.
 ghost use mathlib.Core.Path.{_≡_};
-ghost use mathlib.Core.Bool.{_&&_, _||_};
-ghost use lib.Dec.{eqb, leb};
+ghost use mathlib.Core.Bool.{_||_};
+ghost use lib.Dec.{eqb};
 ghost use Rattle.layout_theory.specs.Parameters.{moduliFor};
 ghost use Rattle.layout_theory.specs.Calls.{shapeFor};
 ghost use Rattle.words_theory.specs.Words.{zeroWord, flip};
@@ -11,13 +11,6 @@ ghost use Rattle.words_theory.specs.Calls.{TwoPlaces};
 use crate::halves;
 use group::Element;
 use layout_theory::Shape;
-
-// Whether p is one of n places.
-pub(crate) fn is_place(n: u32, p: u32) -> bool
-    ensures { λ x. ⌜ x ≡ (leb 1 p && leb p n) ⌝ }
-{
-    if p == 0 { false } else { p <= n }
-}
 
 // The syndrome of the word with ones at the places i and j alone: the two halves of a pair make the
 // digit 2, and else the elements add.

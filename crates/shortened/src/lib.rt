@@ -6,7 +6,7 @@
 mod fill;
 
 ghost use mathlib.Core.Path.{_≡_};
-ghost use mathlib.Core.Bool.{true, _&&_};
+ghost use mathlib.Core.Bool.{true};
 ghost use Prim.Native.Nat.{_-_};
 ghost use lib.Dec.{leb};
 ghost use Rattle.layout_theory.specs.Parameters.{placesOf};
@@ -153,18 +153,11 @@ pub fn third(t: u32, r: u32, s: u32, i: u32, j: u32) -> u32
     if parameters::allowed(t, r, s) {
         let h = parameters::shape_of(t, r);
         let n = h.places - s;
-        if is_place(n, i) {
-            if is_place(n, j) {
+        if parameters::is_place(n, i) {
+            if parameters::is_place(n, j) {
                 return places::third(t, r, i + s, j + s);
             }
         }
     }
     0
-}
-
-// Whether p is one of n places.
-fn is_place(n: u32, p: u32) -> bool
-    ensures { λ x. ⌜ x ≡ (leb 1 p && leb p n) ⌝ }
-{
-    if p == 0 { false } else { p <= n }
 }

@@ -20,13 +20,13 @@ use Rattle.words_theory.proofs.Perfect.{flip-place-reads, fault-within,
 use Rattle.words_theory.proofs.Rule.{corrected-flip, corrected-place}
 
 -- ---- distances
-same-hit : (b : ℕ) → oneIf (not (eqb b b)) ≡ 0
-same-hit b = rw (T-true (eqb b b) (eqb-refl b))
+no-difference : (b : ℕ) → oneIf (not (eqb b b)) ≡ 0
+no-difference b = rw (T-true (eqb b b) (eqb-refl b))
 
 pub distance-self : (w : List ℕ) → distance w w ≡ 0
 unfolding distance
 distance-self [] = refl
-distance-self (b ∷ w) = let i = distance-self w in let h = same-hit b in omega arith
+distance-self (b ∷ w) = let i = distance-self w in let h = no-difference b in omega arith
 
 pub distance-zero : (c w : List ℕ) → distance c w ≡ 0 → c ≡ w
 unfolding distance
@@ -39,15 +39,15 @@ distance-zero (b ∷ c) (x ∷ w) e = go (eqb b x) refl (distance-zero c w)
     go true t f = ap₂ {C = List ℕ} _∷_ (eqb→eq b x (true-T (eqb b x) t)) (f (omega arith))
     go false t f = let h = ap (λ (u : Bool). oneIf (not u)) t in absurd (omega arith)
 
-hit-le : (b : Bool) → oneIf b ≤ 1
-hit-le true = omega arith
-hit-le false = omega arith
+oneIf-most : (b : Bool) → oneIf b ≤ 1
+oneIf-most true = omega arith
+oneIf-most false = omega arith
 
 distance-flipAt : (w : List ℕ) (i : ℕ) → distance (flipAt i w) w ≤ 1
 unfolding distance flipAt
 distance-flipAt [] i = omega arith
-distance-flipAt (b ∷ w) zero = let k = distance-self w in let h = hit-le (not (eqb (1 - b) b)) in omega arith
-distance-flipAt (b ∷ w) (suc i) = let k = distance-flipAt w i in let h = same-hit b in omega arith
+distance-flipAt (b ∷ w) zero = let k = distance-self w in let h = oneIf-most (not (eqb (1 - b) b)) in omega arith
+distance-flipAt (b ∷ w) (suc i) = let k = distance-flipAt w i in let h = no-difference b in omega arith
 
 pub distance-flip : (w : List ℕ) (p : ℕ) → distance (flip p w) w ≤ 1
 distance-flip w zero = let k = distance-self w in omega arith

@@ -48,10 +48,10 @@ reads-under none = none
 reads-under (bit b r) = bit b (reads-under r)
 reads-under (bits b c r) = bits b c (reads-under r)
 
-under-reads : (sl : List Slot) {w : List ℕ} → Reads (map zeroFirst sl) w → Reads sl w
-under-reads [] none = none
-under-reads (single e ∷ sl) (bit b r) = bit b (under-reads sl r)
-under-reads (pair z ∷ sl) (bits b c r) = bits b c (under-reads sl r)
+reads-zero-first : (sl : List Slot) {w : List ℕ} → Reads (map zeroFirst sl) w → Reads sl w
+reads-zero-first [] none = none
+reads-zero-first (single e ∷ sl) (bit b r) = bit b (reads-zero-first sl r)
+reads-zero-first (pair z ∷ sl) (bits b c r) = bits b c (reads-zero-first sl r)
 
 -- d times the first unit, and a word over the others
 syndrome-first : (m : Modulus) (ms : List Modulus) (d : ℕ) (w : List ℕ) → d < radix m
@@ -89,13 +89,13 @@ pub check-only : (ms : List Modulus) (c : List ℕ) → Reads (units ms) c → c
 unfolding syndromeOver units checkDigits
 check-only [] c none = refl
 check-only (one ∷ ms) c r =
-    check-only ms c (under-reads (units ms) r) ∙ ap (checkDigits (one ∷ ms)) (sym (syndrome-under one ms (units ms) c))
+    check-only ms c (reads-zero-first (units ms) r) ∙ ap (checkDigits (one ∷ ms)) (sym (syndrome-under one ms (units ms) c))
 check-only (two ∷ ms) c (bit {b = b} {w = w} x r) =
     let l = bit-le x in
-    ap {B = List ℕ} (λ (v : List ℕ). b ∷ v) (check-only ms w (under-reads (units ms) r))
+    ap {B = List ℕ} (λ (v : List ℕ). b ∷ v) (check-only ms w (reads-zero-first (units ms) r))
     ∙ ap (checkDigits (two ∷ ms)) (sym (syndrome-first two ms b w (omega arith)))
 check-only (four ∷ ms) c (bits {b = b} {c = b′} {w = w} x y r) =
-    ap {B = List ℕ} (λ (v : List ℕ). b ∷ b′ ∷ v) (check-only ms w (under-reads (units ms) r))
+    ap {B = List ℕ} (λ (v : List ℕ). b ∷ b′ ∷ v) (check-only ms w (reads-zero-first (units ms) r))
     ∙ sym (gray-digit (checkDigits ms (syndromeOver ms (units ms) w)) x y)
     ∙ ap (checkDigits (four ∷ ms)) (sym (syndrome-first four ms (digit b b′) w (digit-lt b b′)))
 

@@ -5,7 +5,7 @@ use native.Mathlib.Omega.{arith}
 use Rattle.group_theory.specs.Group.{negative}
 use Rattle.layout_theory.proofs.Parameters.{Known, known, sizes-known}
 use Rattle.words_theory.specs.Calls.{encodeFor}
-use Rattle.loops_theory.proofs.Answers.{unadmitted, laid, encode-other, encode-short, encode-whole, copied-length}
+use Rattle.loops_theory.proofs.Answers.{unadmitted, holds-message, encode-other, encode-short, encode-whole, copied-length}
 use Rattle.coding.proofs.encode.Statement.{statement}
 use Rattle.coding.proofs.encode.Tie as tie
 
@@ -44,7 +44,7 @@ sub-message-sum c = let z = sizes-known _ _ _ (shaped (c .before .before)) in om
 message-sum-requires : tie.Need-message-sum-requires
 message-sum-requires c κs =
     let l = c .before .if2 .left in
-    laid _ _ _ _ (shaped (c .before .before)) (omega arith)
+    holds-message _ _ _ _ (shaped (c .before .before)) (omega arith)
 
 neg-requires : tie.Need-neg-requires
 neg-requires c κs = search needs

@@ -4,7 +4,7 @@ use mathlib.Core.Path.{ap₂, _∙_}
 use native.Mathlib.Omega.{arith}
 use Rattle.group_theory.specs.Group.{sum}
 use Rattle.layout_theory.proofs.Parameters.{Known, known, sizes-known}
-use Rattle.loops_theory.proofs.Answers.{laid, syndrome-none, syndrome-short, syndrome-whole}
+use Rattle.loops_theory.proofs.Answers.{holds-message, syndrome-none, syndrome-short, syndrome-whole}
 use Rattle.coding.proofs.syndrome.Statement.{statement}
 use Rattle.coding.proofs.syndrome.Tie as tie
 
@@ -44,7 +44,7 @@ sub-message-sum : tie.Need-sub-message-sum
 sub-message-sum c = let z = sizes-known _ _ _ (shaped (c .before)) in omega (arith, z .part)
 
 message-sum-requires : tie.Need-message-sum-requires
-message-sum-requires c κs = let z = sizes-known _ _ _ (shaped (c .before)) in laid _ _ _ _ (shaped (c .before)) (let h = c .if2 .left in omega (arith, z .check))
+message-sum-requires c κs = let z = sizes-known _ _ _ (shaped (c .before)) in holds-message _ _ _ _ (shaped (c .before)) (let h = c .if2 .left in omega (arith, z .check))
 
 read-requires : tie.Need-read-requires
 read-requires c κs =

@@ -27,7 +27,7 @@ returns c = rw (lt-leb _ _ (c .if1 .taken))
 
 returns-2 : tie.Need-returns-2
 unfolding admits
-returns-2 c = rw (le-leb _ _ (c .before .if1 .left), lt-leb _ _ (c .if2 .taken))
+returns-2 c = rw (le-leb _ _ (c .before .if1 .left), lt-leb (c .before .before .args .t) longest (let h = c .if2 .taken in omega arith))
 
 returns-3 : tie.Need-returns-3
 unfolding admits

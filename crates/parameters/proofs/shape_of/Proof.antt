@@ -1,10 +1,12 @@
 -- `parameters::shape_of` meets its contract: the numbers of document 01, or zeros. Assumes nothing.
 use borrow.Author.Needs.{needs}
-use mathlib.Core.Path.{_≡_, sym, _∙_}
-use Prim.Native.Nat.{_*_, _%_, _^_, _<_, _≤_}
+use mathlib.Core.Path.{_≡_, sym, ap₂, _∙_}
+use mathlib.Core.Bool.{true}
+use Prim.Native.Nat.{ℕ, _-_, _*_, _%_, _^_, _<_, _≤_}
 use native.Mathlib.Omega.{arith}
-use Rattle.layout_theory.specs.Parameters.{longest}
+use Rattle.layout_theory.specs.Parameters.{longest, admits}
 use Rattle.layout_theory.specs.Calls.{shapeFor}
+use Rattle.layout_theory.specs.declared.Shape.{Shape}
 use Rattle.layout_theory.proofs.Parameters.{shift-one, bounds}
 use Rattle.parameters.proofs.shape_of.Statement.{statement}
 use Rattle.parameters.proofs.shape_of.Tie as tie
@@ -53,9 +55,18 @@ sub-t11 c = omega (arith, binary c, passed c)
 sub-t12 : tie.Need-sub-t12
 sub-t12 c = omega (arith, places c, passed c)
 
-returns : tie.Need-returns
+-- the shape, by its two powers
+abbrev shape : ℕ → ℕ → ℕ → ℕ → Shape
+shape t r n k = record { a = 2 * r - t; b = t - r; places = n - 1; binary = k - 1; message = n - 1 - t }
+
+admitted-shape : (t r : ℕ) → admits t r ≡ true → shape t r (2 ^ t) (2 ^ r) ≡ shapeFor t r
 unfolding shapeFor
-returns c = rw (sym (c .before .admitted .ensures) ∙ c .if1 .taken, places c, binary c)
+admitted-shape t r e = rw e
+
+returns : tie.Need-returns
+returns c =
+    let g = c .before .before .args in
+    ap₂ (shape (g .t) (g .r)) (places c) (binary c) ∙ admitted-shape (g .t) (g .r) (sym (c .before .admitted .ensures) ∙ c .if1 .taken)
 
 returns-2 : tie.Need-returns-2
 unfolding shapeFor
