@@ -62,19 +62,19 @@ module _ (n : ℕ) (x0 x1 x2 x3 : List ℕ) where
 
 -- ---- one digit
 -- even numbers have even digits, and are never among the low ones
-abbrev pub Fits : Bool → Bool → ℕ → Type 0
-Fits true low d = Unit {0}
-Fits false true d = ⊥
-Fits false false zero = Unit {0}
-Fits false false (suc zero) = ⊥
-Fits false false (suc (suc zero)) = Unit {0}
-Fits false false (suc (suc (suc d))) = ⊥
+abbrev pub DigitFits : Bool → Bool → ℕ → Type 0
+DigitFits true low d = Unit {0}
+DigitFits false true d = ⊥
+DigitFits false false zero = Unit {0}
+DigitFits false false (suc zero) = ⊥
+DigitFits false false (suc (suc zero)) = Unit {0}
+DigitFits false false (suc (suc (suc d))) = ⊥
 
 -- how many low numbers a block of digit 1 has
 abbrev pub lows : Bool → List Modulus → ℕ
 lows p ms = pick p (length (blocks.low ms)) 0
 
-number-off : (ms : List Modulus) (p low : Bool) (d i : ℕ) → d < 4 → Fits p low d → i < length (numbers p (lowAfter low d) ms)
+number-off : (ms : List Modulus) (p low : Bool) (d i : ℕ) → d < 4 → DigitFits p low d → i < length (numbers p (lowAfter low d) ms)
     → getD (numbers p low (next ms)) (offset d (length (numbers p low ms)) (lows p ms) + i) 0 ≡ getD (numbers p (lowAfter low d) ms) i 0 + size ms * d
 number-off ms true true zero i l f h =
     let e : 0 + i ≡ i = omega arith in
@@ -152,7 +152,7 @@ width-small false n e h l = (omega arith, omega arith)
 
 module _ (a b : ℕ) (h : a + b ≤ 12) where
   -- the element of an index without its highest digit
-  pub element-off : (p low : Bool) (j d i : ℕ) → j < b → d < 4 → Fits p low d → i < length (numbers p (lowAfter low d) (level a b j))
+  pub element-off : (p low : Bool) (j d i : ℕ) → j < b → d < 4 → DigitFits p low d → i < length (numbers p (lowAfter low d) (level a b j))
       → element (level a b (suc j)) (getD (numbers p low (level a b (suc j))) (offset d (length (numbers p low (level a b j))) (lows p (level a b j)) + i) 0)
       ≡ element (level a b j) (getD (numbers p (lowAfter low d) (level a b j)) i 0) ++ (d ∷ [])
   element-off p low j d i k l f q =
@@ -221,7 +221,7 @@ module _ (a b : ℕ) (h : a + b ≤ 12) where
   block-fits : (p low : Bool) (j k d i : ℕ) → j < b → Kind p low → k < length (numbers p low (level a b (suc j)))
       → offset d (length (numbers p low (level a b j))) (lows p (level a b j)) + i ≡ k
       → d < 4 → i < pick (lowAfter low d) (lows p (level a b j)) (length (numbers p false (level a b j)))
-      → Fits p low d × Kind p (lowAfter low d) × (i < length (numbers p (lowAfter low d) (level a b j)))
+      → DigitFits p low d × Kind p (lowAfter low d) × (i < length (numbers p (lowAfter low d) (level a b j)))
   block-fits true low j k d i l s q e t u = (tt, tt, go (lowAfter low d) u)
     where
       go : (c : Bool) → i < pick c (lows true (level a b j)) (length (numbers true false (level a b j))) → i < length (numbers true c (level a b j))

@@ -23,7 +23,7 @@ use Rattle.blocks_theory.specs.Blocks.{level, plusTo, evenTo}
 use Rattle.blocks_theory.specs.Indices.{numbers, firstWidth, lowWidth, offset, lowAfter, Based}
 use Rattle.blocks_theory.proofs.Levels.{level-none, low-none, even-none, plus-next, low-next, even-next, level-counts}
 use Rattle.blocks_theory.proofs.Splits.{even-power, size-low}
-use Rattle.blocks_theory.proofs.Descents.{Fits, Kind, lows, number-below, element-off, numbers-all, numbers-none, down-counts, down-widths, down-asks, take-element}
+use Rattle.blocks_theory.proofs.Descents.{DigitFits, Kind, lows, number-below, element-off, numbers-all, numbers-none, down-counts, down-widths, down-asks, take-element}
 
 -- ---- components of an element
 valid-drop : (ms : List Modulus) (x : List ℕ) (i : ℕ) → Valid ms x → Valid (drop i ms) (drop i x)
@@ -180,7 +180,7 @@ none-low true = tt
 none-low false = tt
 
 -- an even number has an even digit, and its block is one of even numbers
-digit-fits : (p low : Bool) (d : ℕ) → d < 4 → Kind p low → (p ≡ false → d % 2 ≡ 0) → Fits p low d × Kind p (lowAfter low d)
+digit-fits : (p low : Bool) (d : ℕ) → d < 4 → Kind p low → (p ≡ false → d % 2 ≡ 0) → DigitFits p low d × Kind p (lowAfter low d)
 digit-fits true low d l s e = (tt, tt)
 digit-fits false true d l s e = absurd s
 digit-fits false false zero l s e = (tt, tt)
@@ -197,7 +197,7 @@ sign-after l (suc (suc (suc zero))) h = refl
 sign-after l (suc (suc (suc (suc d)))) h = absurd (omega arith)
 
 -- a block ends where the numbers do, or before
-block-room : (a b : ℕ) → a + b ≤ 12 → (p low : Bool) (j d : ℕ) → j < b → d < 4 → Fits p low d
+block-room : (a b : ℕ) → a + b ≤ 12 → (p low : Bool) (j d : ℕ) → j < b → d < 4 → DigitFits p low d
     → offset d (length (numbers p low (level a b j))) (lows p (level a b j)) + length (numbers p (lowAfter low d) (level a b j)) ≤ length (numbers p low (level a b (suc j)))
 block-room a b h true true j zero k l f = let n = low-next a b h j k in omega arith
 block-room a b h true true j (suc zero) k l f = let n = low-next a b h j k in omega arith

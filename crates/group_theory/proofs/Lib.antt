@@ -1,6 +1,6 @@
 -- Laws is the group, Numbers the numbering, Signs the sign and the units, Unit what units add and which numbers they have, Snoc and Weights
--- weighted sums taken apart by their last components: what the crates above may use. Fill has the moduli by index and what the loops here
--- need.
+-- weighted sums taken apart by their last components: what the crates above may use. Fill has the moduli by index and what the loops of
+-- crate group need.
 pub mod Laws
 pub mod Numbers
 pub mod Signs

@@ -49,7 +49,7 @@ fn value_of(s: &[u8], n: usize) -> u32
 }
 
 // Whether a number may have so many digits.
-fn is_few(n: usize) -> bool
+fn is_one_to_four(n: usize) -> bool
     ensures { λ x. ⌜ x ≡ oneToFour n ⌝ }
 {
     if n < 1 { false } else { n <= 4 }
@@ -67,7 +67,7 @@ fn second(t: u32, s: &[u8]) -> Line
     ensures { λ x. ⌜ x ≡ readSecond t (now (s .entry)) ⌝ }
 {
     let n = digits(s);
-    if !is_few(n) {
+    if !is_one_to_four(n) {
         return Line::Malformed;
     }
     if !is_end(&s[n..]) {
@@ -97,7 +97,7 @@ pub(crate) fn line(s: &[u8]) -> Line
     ensures { λ x. ⌜ x ≡ readLine (now (s .entry)) ⌝ }
 {
     let n = digits(s);
-    if !is_few(n) {
+    if !is_one_to_four(n) {
         return Line::Malformed;
     }
     let t = value_of(s, n);

@@ -1,4 +1,4 @@
--- `readLine` gives t and r exactly where the input spells them: `reads` one way, `spells` the other. Assumes nothing.
+-- `readLine` gives t and r exactly where the input spells them: `spelt-is-read` one way, `spells` the other. Assumes nothing.
 use mathlib.Core.Path.{_≡_, refl, ap, sym, _∙_}
 use mathlib.Core.Bool.{Bool, true, false, _&&_}
 use mathlib.Core.List.{List, [], _∷_, _++_}
@@ -32,15 +32,15 @@ newline-ends : isDigit 10 ≡ false
 unfolding isDigit
 newline-ends = refl
 
-number-few : (ds : List ℕ) → Number ds → oneToFour (length ds) ≡ true
+number-one-to-four : (ds : List ℕ) → Number ds → oneToFour (length ds) ≡ true
 unfolding oneToFour
-number-few ds n = rw (le-leb 1 (length ds) (n .some), le-leb (length ds) 4 (n .atMost))
+number-one-to-four ds n = rw (le-leb 1 (length ds) (n .some), le-leb (length ds) 4 (n .atMost))
 
 second-reads : (t : ℕ) (es : List ℕ) → Number es → readSecond t (es ++ (10 ∷ [])) ≡ Read t (value es)
 unfolding readSecond isEnd
 second-reads t es n =
     let p = stop 10 [] (n .digits) newline-ends in
-    rw (p .0, p .1, number-few es n)
+    rw (p .0, p .1, number-one-to-four es n)
 
 rest-reads : (t : ℕ) (es : List ℕ) → Number es → readRest t (32 ∷ (es ++ (10 ∷ []))) ≡ Read t (value es)
 unfolding readRest
@@ -54,7 +54,7 @@ spelt-is-read s t r w =
       w .spelling,
       p .0,
       p .1,
-      number-few (w .first) (w .firstNumber),
+      number-one-to-four (w .first) (w .firstNumber),
       rest-reads (value (w .first)) (w .second) (w .secondNumber),
       w .firstValue,
       w .secondValue,

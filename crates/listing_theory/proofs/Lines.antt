@@ -1,4 +1,4 @@
--- What a line is read as, by the tests that the code makes: one law for each answer of src/read.rt. Assumes nothing.
+-- What a line is read as, by the tests that the code makes: one law for each answer of crate listing, src/read.rt. Assumes nothing.
 use mathlib.Core.Path.{_≡_, refl, ap, sym, _∙_}
 use mathlib.Core.Bool.{true, false}
 use mathlib.Core.List.{List, [], _∷_}
@@ -33,9 +33,9 @@ from n s = take (length s - n) (drop n s)
 from-drop : (n : ℕ) (s : List ℕ) → from n s ≡ drop n s
 from-drop n s = take-all (length s - n) (drop n s) (simp length-drop (omega arith))
 
-few-true : (n : ℕ) → oneToFour n ≡ true → n ≤ 4
+one-to-four-true : (n : ℕ) → oneToFour n ≡ true → n ≤ 4
 unfolding oneToFour
-few-true n e = leb-true n 4 (both (leb 1 n) (leb n 4) e .1)
+one-to-four-true n e = leb-true n 4 (both (leb 1 n) (leb n 4) e .1)
 
 -- n is the number of digits that s begins with
 module _ (s : List ℕ) (n : ℕ) (e : n ≡ length (leadingDigits s)) where
@@ -48,8 +48,8 @@ module _ (s : List ℕ) (n : ℕ) (e : n ≡ length (leadingDigits s)) where
   pub inside : n ≤ length s
   inside = omega (arith, e, simp length-append at (ap length (split s)))
 
-  pub few-inside : oneToFour n ≡ true → (n ≤ 4) × (n ≤ length s)
-  few-inside f = (few-true n f, inside)
+  pub one-to-four-inside : oneToFour n ≡ true → (n ≤ 4) × (n ≤ length s)
+  one-to-four-inside f = (one-to-four-true n f, inside)
 
   pub second-count : (t : ℕ) → oneToFour n ≡ false → Malformed ≡ readSecond t s
   unfolding readSecond

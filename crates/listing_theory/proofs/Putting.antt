@@ -1,4 +1,4 @@
--- Texts put into a buffer one after the other: the laws that the functions of src/write.rt are made of. Assumes nothing.
+-- Texts put into a buffer one after the other: the laws that the functions of crate listing, src/write.rt, are made of. Assumes nothing.
 use mathlib.Core.Path.{_≡_, refl, ap, sym, _∙_}
 use mathlib.Core.List.{List, [], _∷_, _++_}
 use Prim.Native.Nat.{ℕ, suc, _+_, _≤_, _<_}

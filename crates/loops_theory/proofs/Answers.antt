@@ -1,4 +1,4 @@
--- What the calls answer, by their tests: the shape of the parameters, and the lengths. Assumes nothing.
+-- What the functions of coding, combining and places answer, by their tests: the shape of the parameters, and the lengths. Assumes nothing.
 use mathlib.Core.Path.{_≡_, refl, sym, ap, ap₂, subst, _∙_}
 use mathlib.Core.Bool.{Bool, true, false, _&&_, and-false}
 use mathlib.Core.List.{List, _++_, append-assoc}

@@ -41,7 +41,7 @@ unfolding checkDigits
 digits-one ms e i h k q = rw (drop-cons ms i one, drop-cons e i 0, q)
 
 -- the digits of the first i components are written
-pub record Digits (a b : ℕ) (e old : List ℕ) (start : ℕ) (out : List ℕ) (at i : ℕ) : Type 0 where
+pub record DigitsWritten (a b : ℕ) (e old : List ℕ) (start : ℕ) (out : List ℕ) (at i : ℕ) : Type 0 where
   pub top : i ≤ 12
   pub wide : length out ≡ length old
   pub done : take at out ++ checkDigits (drop i (moduli a b)) (drop i e) ≡ take start old ++ checkDigits (moduli a b) e
@@ -49,10 +49,10 @@ pub record Digits (a b : ℕ) (e old : List ℕ) (start : ℕ) (out : List ℕ) 
   pub place : Place a b start at i
 
 module _ (a b : ℕ) (e old : List ℕ) (start : ℕ) (n : length e ≡ 12) (h : a + b ≤ 12) (room : start + (a + 2 * b) ≤ length old) where
-  pub digits-start : Digits a b e old start old start 0
+  pub digits-start : DigitsWritten a b e old start old start 0
   digits-start = record { top = omega arith; wide = refl; done = refl; kept = refl; place = omega arith }
 
-  module _ (out : List ℕ) (at i : ℕ) (v : Digits a b e old start out at i) (k : i < 12) where
+  module _ (out : List ℕ) (at i : ℕ) (v : DigitsWritten a b e old start out at i) (k : i < 12) where
     -- the places of the next digit are there
     pub room-two : i < a → at < length out
     room-two l = let p = v .place in let w = v .wide in omega arith
@@ -60,7 +60,7 @@ module _ (a b : ℕ) (e old : List ℕ) (start : ℕ) (n : length e ≡ 12) (h :
     pub room-four : a ≤ i → i - a < b → at + 1 < length out
     room-four l m = let p = v .place in let w = v .wide in omega arith
 
-    pub write-two : i < a → Digits a b e old start (set out at (getD e i 0)) (at + 1) (i + 1)
+    pub write-two : i < a → DigitsWritten a b e old start (set out at (getD e i 0)) (at + 1) (i + 1)
     write-two l =
         let p = v .place in
         let w = v .wide in
@@ -77,7 +77,7 @@ module _ (a b : ℕ) (e old : List ℕ) (start : ℕ) (n : length e ≡ 12) (h :
         }
 
     pub write-four : a ≤ i → i - a < b
-        → Digits a b e old start (set (set out at (hd (gray (getD e i 0) []))) (at + 1) (hd (tl (gray (getD e i 0) [])))) (at + 2) (i + 1)
+        → DigitsWritten a b e old start (set (set out at (hd (gray (getD e i 0) []))) (at + 1) (hd (tl (gray (getD e i 0) [])))) (at + 2) (i + 1)
     write-four l q =
         let p = v .place in
         let w = v .wide in
@@ -102,7 +102,7 @@ module _ (a b : ℕ) (e old : List ℕ) (start : ℕ) (n : length e ≡ 12) (h :
           place = omega arith;
         }
 
-    pub write-one : a ≤ i → b ≤ i - a → Digits a b e old start out at (i + 1)
+    pub write-one : a ≤ i → b ≤ i - a → DigitsWritten a b e old start out at (i + 1)
     write-one l q =
         let p = v .place in
         let m = length-moduli a b in
@@ -115,7 +115,7 @@ module _ (a b : ℕ) (e old : List ℕ) (start : ℕ) (n : length e ≡ 12) (h :
           place = omega arith;
         }
 
-  pub digits-end : (out : List ℕ) (at i : ℕ) → Digits a b e old start out at i → 12 ≤ i
+  pub digits-end : (out : List ℕ) (at i : ℕ) → DigitsWritten a b e old start out at i → 12 ≤ i
       → out ≡ take start old ++ (checkDigits (moduli a b) e ++ drop (start + (a + 2 * b)) old)
   unfolding checkDigits
   digits-end out at i v k =

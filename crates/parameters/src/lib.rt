@@ -1,6 +1,6 @@
 // The parameters: whether t and r are admitted, whether s is allowed with them, the numbers of their
-// code, and whether a number is a place. What each function answers is defined in crate layout_theory,
-// specs/Parameters.antt and Calls.antt, and in crate shortened_theory, specs/Allowed.antt.
+// code, and whether a number is a place. What the first three answer is defined in crate layout_theory,
+// specs/Parameters.antt and Calls.antt, and in crate shortened_theory, specs/Calls.antt.
 ghost use mathlib.Core.Path.{_≡_};
 ghost use mathlib.Core.Bool.{_&&_};
 ghost use lib.Dec.{leb, ltb};

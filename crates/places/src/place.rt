@@ -1,5 +1,4 @@
-// One place of a word: which is at fault, the word with it flipped, and whether it is binary or of a
-// pair.
+// One place of a word: which is at fault, and whether it is binary or of a pair.
 ghost use mathlib.Core.Path.{_≡_};
 ghost use Prim.Native.Nat.{ℕ, _-_, _<_, _≤_};
 ghost use lib.Dec.{eqb};

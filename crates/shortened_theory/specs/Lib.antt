@@ -1,4 +1,4 @@
--- Read Allowed, Code and Calls, in this order: which s are allowed, what a shortened code is, and what the public functions answer. Claims
+-- Read Allowed, Code and Calls, in this order: which s are allowed, what a shortened code is, and all of it for any t, r, s and bytes. Claims
 -- states the theorem.
 pub mod Allowed
 pub mod Code

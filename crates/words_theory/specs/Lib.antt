@@ -1,5 +1,5 @@
 -- Read Digits, Words, Syndrome, Halves, Coding and Calls, in this order: the Gray map, words and what is done to them place by place, the
--- syndrome and codewords, the two halves of a pair, encoding, correction and the third place, and what the public functions answer.
+-- syndrome and codewords, the two halves of a pair, encoding, correction and the third place, and all of it for any t, r and bytes.
 -- Claims states the theorems.
 pub mod Digits
 pub mod Words

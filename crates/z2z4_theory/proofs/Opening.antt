@@ -1,4 +1,4 @@
--- Each call for C is the coder's call with a record just opened: neither 21, 22 nor 23 applies to such a record, so that only the reasons
+-- Each call for C is the coder's call with a record just opened: none of 21, 22, 10, 11 and 23 applies to such a record, so that only the reasons
 -- because of the input are left. Assumes nothing.
 use mathlib.Core.Path.{_≡_, refl, sym, ap, subst, _∙_}
 use mathlib.Core.Bool.{Bool, true, false, not, _&&_}

@@ -4,12 +4,12 @@ use mathlib.Core.Logic.{⊎-elim}
 use Prim.Native.Nat.{_+_, _-_, _<_}
 use native.Mathlib.Omega.{arith}
 use lib.ListN.{length, length-set}
-use Rattle.loops_theory.proofs.CheckWriting.{Digits, digits-start, digits-end, room-two, room-four, write-two, write-four, write-one}
+use Rattle.loops_theory.proofs.CheckWriting.{DigitsWritten, digits-start, digits-end, room-two, room-four, write-two, write-four, write-one}
 use Rattle.coding.proofs.check.write.Statement.{statement}
 use Rattle.coding.proofs.check.write.Tie as tie
 
 abbrev Inv-loop : tie.InvT-loop
-Inv-loop a b out₀ start e at₀ i₀ out at i = Digits a b e out₀ start out at i
+Inv-loop a b out₀ start e at₀ i₀ out at i = DigitsWritten a b e out₀ start out at i
 
 abbrev μ-loop : tie.MeasureT-loop
 μ-loop a b out₀ start e at₀ i₀ out at i = 12 - i
