@@ -166,6 +166,7 @@ pub fn places(record: Record, i: u32, j: u32) -> u32
     0
 }
 
+// Whether p is none of n places, in the words of reason 5.
 fn is_outside(n: u32, p: u32) -> bool
     ensures { λ x. ⌜ x ≡ (eqb p 0 || ltb n p) ⌝ }
 {

@@ -1,7 +1,7 @@
 -- Spreads and Segments (the message as weights), Laying (the loops that lay it out), Checking and CheckWriting (check digits read and written),
--- Writing (a loop that writes over the front of an output), PlaceSums (two words combined, by index), Answers (the calls on words by their
--- tests), Faults (the place at fault from the syndrome, and a word with one place flipped), Told (the third place from the elements of two),
--- Filled (a word of a shortened code, filled) and ByFilling (the calls on such words by their tests).
+-- Writing (a loop that writes over the front of an output), PlaceSums (two words combined, by index), Answers (the functions on plain words, by
+-- their tests), Faults (the place at fault from the syndrome, and a word with one place flipped), Told (the third place from the elements of two),
+-- Filled (a word of a shortened code, filled) and ByFilling (the functions on such words, by their tests).
 pub mod Spreads
 pub mod Segments
 pub mod Laying
