@@ -39,7 +39,7 @@ help:
 	@echo "library         prove the crates and write target/staticlib/libz2z4.a (LIBRARY=path: take that one instead)"
 	@echo "example         build target/host/example"
 	@echo "check           the C tests (check-c) and the Rust tests (check-rust)"
-	@echo "expected        write crates/larger/stdout by the second program"
+	@echo "expected        write crates/larger/stdout and crates/cases/stdout by the second program"
 	@echo "compare         compare with the second program, CALLS=$(CALLS)"
 	@echo "fuzz            fuzz against the second program for SECONDS=$(SECONDS)"
 	@echo "bench           time the library, the second program and the program by tables; the plot goes to PLOT=$(PLOT)"
@@ -92,10 +92,13 @@ check-rust: $(LINKED)
 	$(call need,objcopy,check)
 	+$(CARGO) test $(MANIFEST)
 
+# what the programs larger and cases have to print
 expected: | $(OUT)
 	$(call need,cargo,expected)
 	+$(CARGO) run $(MANIFEST) -p second --bin expected >$(OUT)/expected
 	mv $(OUT)/expected crates/larger/stdout
+	+$(CARGO) run $(MANIFEST) -p second --bin cases <crates/cases/stdin >$(OUT)/expected
+	mv $(OUT)/expected crates/cases/stdout
 
 compare: $(LINKED)
 	$(call need,cargo,compare)

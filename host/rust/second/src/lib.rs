@@ -15,7 +15,10 @@ mod group;
 mod layout;
 #[cfg(test)]
 mod paper;
+mod record;
 mod word;
+
+pub use record::Record;
 
 use group::{Element, Group, ZERO};
 use word::Digit;
@@ -117,6 +120,12 @@ impl Code {
     /// n - t - s, the number of places of a message.
     pub fn message_length(&self) -> usize {
         self.length() - self.t as usize
+    }
+
+    /// Whether this is a place, and a binary one: the others are halves of pairs.
+    pub fn is_binary(&self, place: u32) -> bool {
+        let binary = self.index(place).map(Digit::Binary);
+        binary.is_ok_and(|digit| self.digits.contains(&digit))
     }
 
     /// The number of the element at a place.

@@ -10,7 +10,7 @@ use crate::group::{Element, Group};
 const GRAY: [[u8; 2]; 4] = [[0, 0], [0, 1], [1, 1], [1, 0]];
 
 /// Where a digit of a word stands: a binary place, or the two places of a pair.
-#[derive(Clone, Copy, Debug)]
+#[derive(Clone, Copy, Debug, PartialEq)]
 pub enum Digit {
     Binary(usize),
     Pair(usize, usize),

@@ -5,6 +5,7 @@ mod array;
 mod cases;
 mod expected;
 mod large;
+mod record;
 mod refusals;
 mod shortened;
 mod small;

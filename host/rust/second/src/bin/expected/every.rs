@@ -2,10 +2,9 @@
 //! shortened to. What correction has to give is found by looking through all codewords, and
 //! these by trying all words: no call of correction is made here.
 
-use crate::counts::Counts;
 use crate::digest::Digest;
-use crate::lines::FILL;
-use second::Code;
+use crate::lines::{counts, FILL};
+use second::{Code, Record};
 
 /// As many bytes as each output has; those after the word are kept.
 const ROOM: usize = 16;
@@ -27,7 +26,7 @@ fn line(code: &Code) -> String {
     let n = code.length();
     let mut codewords: Vec<Vec<u8>> = all_words(n).collect();
     codewords.retain(|word| code.syndrome(word) == Ok(0));
-    let mut counts = Counts::default();
+    let mut record = Record::of(code);
     let mut refused = 0;
     let mut digest = Digest::new();
     for word in all_words(n) {
@@ -36,7 +35,7 @@ fn line(code: &Code) -> String {
             Some(codeword) => {
                 let place = place_of_difference(codeword, &word);
                 output[..n].copy_from_slice(codeword);
-                counts.count(code, place);
+                record = record.counted(code, place).expect("not full");
                 digest.take([0, place]);
             }
             None => {
@@ -47,7 +46,7 @@ fn line(code: &Code) -> String {
         digest.take(output.map(u32::from));
     }
     let (t, r, s) = (code.t(), code.r(), code.s());
-    let digest = digest.value();
+    let (counts, digest) = (counts(&record), digest.value());
     format!("every {t} {r} {s} {n} {counts} refused {refused} digest {digest}\n")
 }
 

@@ -1,6 +1,6 @@
-//! How openings, words, answers and outputs are shown.
+//! How openings, words, answers, outputs and counts are shown.
 
-use second::{signed, Code, Refusal};
+use second::{signed, Code, Record, Refusal};
 
 /// What every byte of an output is set to before a call.
 pub const FILL: u8 = 7;
@@ -60,6 +60,14 @@ pub fn outcome(answer: Result<u32, Refusal>, output: &[u8], n: usize) -> String 
     format!("{} {shown}", told(answer))
 }
 
+/// The record's four counts.
+pub fn counts(record: &Record) -> String {
+    format!(
+        "counts {} {} {} {}",
+        record.words, record.clean, record.corrected_binary, record.corrected_pairs
+    )
+}
+
 #[cfg(test)]
 mod tests {
     use super::*;
@@ -100,5 +108,17 @@ mod tests {
             ..refusal
         });
         assert_eq!(outcome(told, &[7, 7, 7], 3), "-4 at 2 untouched");
+    }
+
+    #[test]
+    fn counts_in_their_order() {
+        let record = Record {
+            words: 10,
+            clean: 3,
+            corrected_binary: 2,
+            corrected_pairs: 5,
+            ..Record::default()
+        };
+        assert_eq!(counts(&record), "counts 10 3 2 5");
     }
 }

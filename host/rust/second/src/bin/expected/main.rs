@@ -2,7 +2,6 @@
 //! for t = 0..11 and r = 0..12; for each code three rounds of calls on drawn words, and
 //! rounds in some of its shortened codes; then every word of the short codes.
 
-mod counts;
 mod digest;
 mod every;
 mod lines;

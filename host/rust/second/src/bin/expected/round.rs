@@ -2,10 +2,9 @@
 //! program `larger` makes the same draws in the same order. Where s is 0 it makes the calls
 //! for C, which tell no place in a refusal and have no counts.
 
-use crate::counts::Counts;
-use crate::lines::{hexadecimal, outcome, FILL};
+use crate::lines::{counts, hexadecimal, outcome, FILL};
 use second::draw::Draw;
-use second::{signed, Code, Refusal};
+use second::{signed, Code, Record, Refusal};
 
 pub struct Round<'a> {
     code: &'a Code,
@@ -145,9 +144,8 @@ impl Round<'_> {
         if self.code.s() == 0 {
             return String::new();
         }
-        let mut counts = Counts::default();
-        counts.count(self.code, place);
-        format!(" {counts}")
+        let record = Record::of(self.code).counted(self.code, place);
+        format!(" {}", counts(&record.expect("not full")))
     }
 
     fn encode(&mut self, message: &[u8], room: usize) -> Vec<u8> {

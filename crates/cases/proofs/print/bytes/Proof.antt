@@ -1,23 +1,24 @@
--- `cases::lines::bytes` ends. Assumes nothing.
+-- `cases::print::bytes` ends. Assumes nothing.
 use borrow.Author.Needs.{needs}
 use Prim.Native.Nat.{_-_, _≤_}
-use Rattle.cases.proofs.lines.bytes.Statement.{statement}
-use Rattle.cases.proofs.lines.bytes.Tie as tie
+use lib.ListN.{length}
+use Rattle.cases.proofs.print.bytes.Statement.{statement}
+use Rattle.cases.proofs.print.bytes.Tie as tie
 
 abbrev Inv-loop : tie.InvT-loop
-Inv-loop word b₀ i₀ b i = i ≤ 32
+Inv-loop w i₀ i = i ≤ length w
 
 abbrev μ-loop : tie.MeasureT-loop
-μ-loop word b₀ i₀ b i = 32 - i
+μ-loop w i₀ i = length w - i
 
 loop-holds : tie.Need-loop-holds Inv-loop μ-loop
 loop-holds c = search needs
 
-shared-slice-read-b : tie.Need-shared-slice-read-b Inv-loop μ-loop
-shared-slice-read-b c = search needs
+shared-slice-read-byte : tie.Need-shared-slice-read-byte Inv-loop μ-loop
+shared-slice-read-byte c = search needs
 
-array-write-b : tie.Need-array-write-b Inv-loop μ-loop
-array-write-b c = search needs
+byte-requires : tie.Need-byte-requires Inv-loop μ-loop
+byte-requires c κs = search needs
 
 add-i : tie.Need-add-i Inv-loop μ-loop
 add-i c = search needs
@@ -38,8 +39,8 @@ bytes-spec =
     Inv-loop
     μ-loop
     loop-holds
-    shared-slice-read-b
-    array-write-b
+    shared-slice-read-byte
+    byte-requires
     add-i
     loop-less
     loop-again

@@ -1,0 +1,85 @@
+// The table of calls: the forms of lines, a name with the brackets and numbers that it is given, and in the same
+// order the calls, each in what prints its answer. A new call adds a line to both. The table is in parts, since the
+// check of a function grows faster than its length.
+ghost use Prim.Native.Nat.{_≤_};
+ghost use lib.ListN.{length};
+use crate::fields::is_of;
+use crate::fields::until;
+use crate::lines::Turn;
+use crate::numbers::Given;
+use crate::print::corrected;
+use crate::print::element;
+use crate::print::number;
+use crate::print::opened;
+use crate::print::shown;
+use crate::print::tested;
+use crate::print::told;
+use crate::print::wrote;
+use coder::Record;
+
+// How many forms of a list, each ended by a semicolon, come before the one that a line has; all of them where it
+// has none.
+fn form(line: &[u8], forms: &[u8]) -> u32 {
+    let mut before: u32 = 0;
+    let mut at: usize = 0;
+    while at < forms.len() {
+        let end = until(forms, at, b';');
+        if is_of(line, &forms[at..end]) {
+            return before;
+        }
+        before = std::num::wrapping_add_u32(before, 1);
+        at = end + 1;
+    }
+    before
+}
+
+// Calls without a word.
+pub(crate) fn answer(line: &[u8], g: Given, first: &[u8], second: &[u8], out: &mut [u8]) -> Turn {
+    match form(
+        line,
+        b"open 0 0 0;\
+        element_at () 0;\
+        word_length ();\
+        message_length ();\
+        third_place () 0 0;",
+    ) {
+        0 => opened(coder::open(g.one, g.two, g.three)),
+        1 => element(coder::element_at(g.record, g.two)),
+        2 => number(coder::word_length(g.record)),
+        3 => number(coder::message_length(g.record)),
+        4 => told(coder::third_place(g.record, g.two, g.three)),
+        _ => read(line, g.record, first, second, out),
+    }
+}
+
+// Calls that read a word.
+fn read(line: &[u8], code: Record, first: &[u8], second: &[u8], out: &mut [u8]) -> Turn {
+    match form(
+        line,
+        b"syndrome () [];\
+        is_codeword () [];\
+        read_message () [];",
+    ) {
+        0 => element(coder::syndrome(code, first)),
+        1 => tested(coder::is_codeword(code, first)),
+        2 => shown(coder::read_message(code, first)),
+        _ => write(line, code, first, second, out),
+    }
+}
+
+// Calls that write an output.
+fn write(line: &[u8], code: Record, first: &[u8], second: &[u8], out: &mut [u8]) -> Turn {
+    match form(
+        line,
+        b"encode () [] {};\
+        correct () [] {};\
+        combine () [] [] {};\
+        invert () [] {};",
+    ) {
+        0 => wrote(coder::encode(code, first, out), out),
+        1 => corrected(coder::correct(code, first, out), out),
+        2 => wrote(coder::combine(code, first, second, out), out),
+        3 => wrote(coder::invert(code, first, out), out),
+        _ => Turn::Malformed,
+    }
+}

@@ -1,0 +1,156 @@
+// Numbers and records, as a line has them.
+ghost use Prim.Native.Nat.{_≤_};
+ghost use lib.ListN.{length};
+use crate::fields::between;
+use crate::fields::is_of;
+use crate::fields::until;
+use coder::Record;
+
+pub(crate) enum Number {
+    Of(u32),
+    Malformed,
+}
+
+pub(crate) enum Recorded {
+    Is(Record),
+    Malformed,
+}
+
+// What a line gives beside words and an output: its record, and its arguments one, two and three where they are
+// numbers, 0 where they are not.
+pub(crate) struct Given {
+    pub(crate) record: Record,
+    pub(crate) one: u32,
+    pub(crate) two: u32,
+    pub(crate) three: u32,
+}
+
+pub(crate) fn closed() -> Record {
+    Record {
+        t: 0,
+        r: 0,
+        s: 0,
+        words: 0,
+        clean: 0,
+        corrected_binary: 0,
+        corrected_pairs: 0,
+    }
+}
+
+// The value of a decimal digit, 10 for any other byte.
+fn digit(byte: u8) -> u64
+    ensures { λ r. ⌜ r ≤ 10 ⌝ }
+{
+    if byte < b'0' {
+        return 10;
+    }
+    if byte > b'9' {
+        return 10;
+    }
+    (byte - b'0') as u64
+}
+
+// A number in decimal digits.
+pub(crate) fn decimal(s: &[u8]) -> Number {
+    let mut v: u64 = 0;
+    let mut i: usize = 0;
+    while i < s.len() {
+        let d = digit(s[i]);
+        v = 10 * v + d;
+        if d == 10 || v > 4294967295 {
+            return Number::Malformed;
+        }
+        i += 1;
+    }
+    if i == 0 {
+        return Number::Malformed;
+    }
+    Number::Of(v as u32)
+}
+
+// The value of a number, or what stands for a malformed one.
+pub(crate) fn value_or(s: &[u8], other: u32) -> u32 {
+    match decimal(s) {
+        Number::Of(v) => v,
+        Number::Malformed => other,
+    }
+}
+
+// The index after the next space, or the length.
+fn next(line: &[u8], at: usize) -> usize
+    requires { ⌜ at ≤ length (now line) ⌝ }
+    ensures { λ r. ⌜ r ≤ length (now (line .entry)) ⌝ }
+{
+    let space = until(line, at, b' ');
+    if space < line.len() {
+        return space + 1;
+    }
+    space
+}
+
+// The number that begins at an index, 0 where there is none.
+fn number_at(line: &[u8], at: usize) -> u32
+    requires { ⌜ at ≤ length (now line) ⌝ }
+{
+    let end = until(line, at, b' ');
+    value_or(&line[at..end], 0)
+}
+
+// The record, with the numbers of its line.
+pub(crate) fn with_numbers(line: &[u8], record: Record) -> Given {
+    let first = next(line, 0);
+    let second = next(line, first);
+    let third = next(line, second);
+    Given {
+        record,
+        one: number_at(line, first),
+        two: number_at(line, second),
+        three: number_at(line, third),
+    }
+}
+
+// The record of a line; where it has none, or names the last one, the last one.
+pub(crate) fn record(line: &[u8], last: Record) -> Recorded {
+    if until(line, 0, b'(') == line.len() {
+        return Recorded::Is(last);
+    }
+    let s = between(line, 0, b'(', b')');
+    if is_of(s, b"last") {
+        return Recorded::Is(last);
+    }
+    listed(s)
+}
+
+// The numbers of a record, commas between them; those left off at the end are 0.
+fn listed(s: &[u8]) -> Recorded {
+    let mut record = closed();
+    let mut k: u32 = 0;
+    let mut at: usize = 0;
+    while at <= s.len() {
+        let end = until(s, at, b',');
+        let Number::Of(v) = decimal(&s[at..end]) else {
+            return Recorded::Malformed;
+        };
+        if k == 7 {
+            return Recorded::Malformed;
+        }
+        record = with(record, k, v);
+        k += 1;
+        at = end + 1;
+    }
+    Recorded::Is(record)
+}
+
+// The record with another value as number k, counted from 0.
+fn with(mut record: Record, k: u32, value: u32) -> Record {
+    match k {
+        0 => record.t = value,
+        1 => record.r = value,
+        2 => record.s = value,
+        3 => record.words = value,
+        4 => record.clean = value,
+        5 => record.corrected_binary = value,
+        _ => record.corrected_pairs = value,
+    }
+    record
+}
