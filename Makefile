@@ -13,7 +13,7 @@ MANIFEST := --offline --release --manifest-path host/rust/Cargo.toml
 # $(call need,TOOL,TARGET) ends with one clear line where the tool is missing
 need = @command -v $(1) >/dev/null || { echo "make $(2) needs $(1) on the PATH" >&2; exit 2; }
 
-.PHONY: all library example check check-c check-rust expected compare fuzz bench install uninstall clean help FORCE
+.PHONY: all library example check check-c check-rust check-cases expected compare fuzz bench install uninstall clean help FORCE
 all: library example
 
 # `make LIBRARY=path/to/libz2z4.a ..` takes a library that is there already: nothing is proved, and rt is not needed.
@@ -39,6 +39,7 @@ help:
 	@echo "library         prove the crates and write target/staticlib/libz2z4.a (LIBRARY=path: take that one instead)"
 	@echo "example         build target/host/example"
 	@echo "check           the C tests (check-c) and the Rust tests (check-rust)"
+	@echo "check-cases     prove and build the program cases: it and the second program have to refuse each line of host/malformed"
 	@echo "expected        write crates/larger/stdout and crates/cases/stdout by the second program"
 	@echo "compare         compare with the second program, CALLS=$(CALLS)"
 	@echo "fuzz            fuzz against the second program for SECONDS=$(SECONDS)"
@@ -91,6 +92,17 @@ check-rust: $(LINKED)
 	$(call need,cargo,check)
 	$(call need,objcopy,check)
 	+$(CARGO) test $(MANIFEST)
+
+# none of these lines is a call; cases stops at the first, so each is given alone
+check-cases: | $(OUT)
+	$(call need,rt,check-cases)
+	$(call need,cargo,check-cases)
+	rt check cases
+	+$(CARGO) build $(MANIFEST) -p second --bin cases
+	@while IFS= read -r line; do for program in target/bin/cases $(OUT)/rust/release/cases; do \
+	    printf '%s\n' "$$line" | $$program | grep -Fqx -- "$$line: line 1 is malformed" || \
+	        { echo "not malformed, says $$program: $$line" >&2; exit 1; }; \
+	done; done <host/malformed
 
 # what the programs larger and cases have to print
 expected: | $(OUT)

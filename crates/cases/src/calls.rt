@@ -15,7 +15,6 @@ use crate::print::shown;
 use crate::print::tested;
 use crate::print::told;
 use crate::print::wrote;
-use coder::Record;
 
 // How many forms of a list, each ended by a semicolon, come before the one that a line has; all of them where it
 // has none.
@@ -27,6 +26,7 @@ fn form(line: &[u8], forms: &[u8]) -> u32 {
         if is_of(line, &forms[at..end]) {
             return before;
         }
+        // Wraps round so that no bound has to be shown; no list is that long.
         before = std::num::wrapping_add_u32(before, 1);
         at = end + 1;
     }
@@ -48,27 +48,27 @@ pub(crate) fn answer(line: &[u8], g: Given, first: &[u8], second: &[u8], out: &m
         2 => number(coder::word_length(g.record)),
         3 => number(coder::message_length(g.record)),
         4 => told(coder::third_place(g.record, g.two, g.three)),
-        _ => read(line, g.record, first, second, out),
+        _ => on_word(line, g, first, second, out),
     }
 }
 
 // Calls that read a word.
-fn read(line: &[u8], code: Record, first: &[u8], second: &[u8], out: &mut [u8]) -> Turn {
+fn on_word(line: &[u8], g: Given, first: &[u8], second: &[u8], out: &mut [u8]) -> Turn {
     match form(
         line,
         b"syndrome () [];\
         is_codeword () [];\
         read_message () [];",
     ) {
-        0 => element(coder::syndrome(code, first)),
-        1 => tested(coder::is_codeword(code, first)),
-        2 => shown(coder::read_message(code, first)),
-        _ => write(line, code, first, second, out),
+        0 => element(coder::syndrome(g.record, first)),
+        1 => tested(coder::is_codeword(g.record, first)),
+        2 => shown(coder::read_message(g.record, first)),
+        _ => with_output(line, g, first, second, out),
     }
 }
 
 // Calls that write an output.
-fn write(line: &[u8], code: Record, first: &[u8], second: &[u8], out: &mut [u8]) -> Turn {
+fn with_output(line: &[u8], g: Given, first: &[u8], second: &[u8], out: &mut [u8]) -> Turn {
     match form(
         line,
         b"encode () [] {};\
@@ -76,10 +76,10 @@ fn write(line: &[u8], code: Record, first: &[u8], second: &[u8], out: &mut [u8])
         combine () [] [] {};\
         invert () [] {};",
     ) {
-        0 => wrote(coder::encode(code, first, out), out),
-        1 => corrected(coder::correct(code, first, out), out),
-        2 => wrote(coder::combine(code, first, second, out), out),
-        3 => wrote(coder::invert(code, first, out), out),
+        0 => wrote(coder::encode(g.record, first, out), out),
+        1 => corrected(coder::correct(g.record, first, out), out),
+        2 => wrote(coder::combine(g.record, first, second, out), out),
+        3 => wrote(coder::invert(g.record, first, out), out),
         _ => Turn::Malformed,
     }
 }

@@ -77,7 +77,7 @@ pub(crate) fn value_or(s: &[u8], other: u32) -> u32 {
 }
 
 // The index after the next space, or the length.
-fn next(line: &[u8], at: usize) -> usize
+fn after_space(line: &[u8], at: usize) -> usize
     requires { ⌜ at ≤ length (now line) ⌝ }
     ensures { λ r. ⌜ r ≤ length (now (line .entry)) ⌝ }
 {
@@ -98,9 +98,9 @@ fn number_at(line: &[u8], at: usize) -> u32
 
 // The record, with the numbers of its line.
 pub(crate) fn with_numbers(line: &[u8], record: Record) -> Given {
-    let first = next(line, 0);
-    let second = next(line, first);
-    let third = next(line, second);
+    let first = after_space(line, 0);
+    let second = after_space(line, first);
+    let third = after_space(line, second);
     Given {
         record,
         one: number_at(line, first),
@@ -115,6 +115,7 @@ pub(crate) fn record(line: &[u8], last: Record) -> Recorded {
         return Recorded::Is(last);
     }
     let s = between(line, 0, b'(', b')');
+    // A form without brackets and numbers is that text alone.
     if is_of(s, b"last") {
         return Recorded::Is(last);
     }

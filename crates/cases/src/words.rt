@@ -41,11 +41,14 @@ pub(crate) fn put(s: &[u8], room: &mut [u8]) -> Filled {
     Filled::To(n)
 }
 
-// The value of a digit, or of a number in brackets; 256, which is no byte's, for anything else.
+// The value of a digit, or of a number in angle brackets; 256, which is no byte's, for anything else.
 fn value(s: &[u8]) -> u32 {
     let n = s.len();
     if n < 3 {
         return value_or(s, 256);
+    }
+    if s[0] != b'<' {
+        return 256;
     }
     value_or(&s[1..n - 1], 256)
 }

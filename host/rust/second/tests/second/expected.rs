@@ -20,6 +20,19 @@ fn cases_is_checked_against_what_cases_writes() {
     check("crates/cases/stdout", &written);
 }
 
+/// A malformed line ends a run, so one in the middle would hide all cases after it. Only the last
+/// line but one is meant to be malformed.
+#[test]
+fn no_case_is_hidden_by_a_malformed_line() {
+    let text = |name| fs::read_to_string(format!("{ROOT}/crates/cases/{name}")).expect(name);
+    let (calls, printed) = (text("stdin"), text("stdout"));
+    assert_eq!(calls.lines().count(), printed.lines().count() + 1);
+    let malformed = printed
+        .lines()
+        .position(|line| line.ends_with(" is malformed"));
+    assert_eq!(malformed, Some(printed.lines().count() - 1));
+}
+
 fn output_of(program: &str, input: Stdio) -> Vec<u8> {
     let run = Command::new(program).stdin(input).output();
     let run = run.unwrap_or_else(|error| panic!("{program}: {error}"));

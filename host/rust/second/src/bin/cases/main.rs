@@ -9,7 +9,8 @@ mod table;
 use second::Record;
 use std::io::{self, Read, Write};
 
-/// From this many bytes on, its newline not counted, a line is too long.
+/// From this many bytes on, its newline not counted, a line is too long: the engine's program has
+/// as much room for one.
 const TOO_LONG: usize = 65_536;
 
 fn main() -> io::Result<()> {
@@ -35,8 +36,8 @@ fn answered(input: &[u8]) -> Vec<u8> {
     printed
 }
 
-/// The lines without their newlines; nothing after the last newline is no line. `too long`
-/// stands for a line that is, and is malformed as well: no call has that name.
+/// The lines without their newlines; where the input ends with one, no line follows it. `too
+/// long` stands for a line that is, and is malformed as well: no call has that name.
 fn lines(input: &[u8]) -> impl Iterator<Item = &[u8]> {
     let ended = input.split_inclusive(|&byte| byte == b'\n');
     let lines = ended.map(|line| line.strip_suffix(b"\n").unwrap_or(line));
