@@ -24,6 +24,7 @@ fn main() {
             }
             Turn::End => return,
         }
+        print::text(b"\n");
         number += 1;
     }
 }

@@ -5,10 +5,10 @@ use Rattle.cases.proofs.main.Statement.{statement}
 use Rattle.cases.proofs.main.Tie as tie
 
 abbrev Inv-loop : tie.InvT-loop
-Inv-loop last₀ number₀ last number = number ≤ 4294967295
+Inv-loop last₀ number₀ t4 last number = number ≤ 4294967295
 
 abbrev μ-loop : tie.MeasureT-loop
-μ-loop last₀ number₀ last number = 4294967295 - number
+μ-loop last₀ number₀ t4 last number = 4294967295 - number
 
 closed-requires : tie.Need-closed-requires Inv-loop μ-loop
 closed-requires c κs = search needs
@@ -40,6 +40,12 @@ enum-told-3 c = search needs
 returns-2 : tie.Need-returns-2 Inv-loop μ-loop
 returns-2 c = search needs
 
+slice-aggregate-text : tie.Need-slice-aggregate-text Inv-loop μ-loop
+slice-aggregate-text c = search needs
+
+text-requires : tie.Need-text-requires Inv-loop μ-loop
+text-requires c κs = search needs
+
 add-number : tie.Need-add-number Inv-loop μ-loop
 add-number c = search needs
 
@@ -68,6 +74,8 @@ main-spec =
     returns
     enum-told-3
     returns-2
+    slice-aggregate-text
+    text-requires
     add-number
     loop-less
     loop-again
