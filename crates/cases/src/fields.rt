@@ -1,7 +1,7 @@
 // The parts of a line, and whether it has the form of a call.
 ghost use Prim.Native.Nat.{_+_, _≤_, _<_};
 ghost use lib.ListN.{length};
-use crate::numbers::Number;
+use crate::numbers::MOST;
 use crate::numbers::decimal;
 
 // The first index from `at` on that holds the byte, or the length.
@@ -63,7 +63,7 @@ pub(crate) fn is_of(line: &[u8], form: &[u8]) -> bool {
         }
         if form[j] == b'0' {
             let end = until(line, i, b' ');
-            if let Number::Malformed = decimal(&line[i..end]) {
+            if decimal(&line[i..end]) > MOST {
                 return false;
             }
             i = end;

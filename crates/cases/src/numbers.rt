@@ -6,10 +6,8 @@ use crate::fields::is_of;
 use crate::fields::until;
 use coder::Record;
 
-pub(crate) enum Number {
-    Of(u32),
-    Malformed,
-}
+// The largest number that a line may have.
+pub(crate) const MOST: u64 = 4294967295;
 
 pub(crate) enum Recorded {
     Is(Record),
@@ -50,30 +48,22 @@ fn digit(byte: u8) -> u64
     (byte - b'0') as u64
 }
 
-// A number in decimal digits.
-pub(crate) fn decimal(s: &[u8]) -> Number {
+// A number in decimal digits; more than MOST for anything else.
+pub(crate) fn decimal(s: &[u8]) -> u64 {
     let mut v: u64 = 0;
     let mut i: usize = 0;
     while i < s.len() {
         let d = digit(s[i]);
         v = 10 * v + d;
-        if d == 10 || v > 4294967295 {
-            return Number::Malformed;
+        if d == 10 || v > MOST {
+            return MOST + 1;
         }
         i += 1;
     }
     if i == 0 {
-        return Number::Malformed;
+        return MOST + 1;
     }
-    Number::Of(v as u32)
-}
-
-// The value of a number, or what stands for a malformed one.
-pub(crate) fn value_or(s: &[u8], other: u32) -> u32 {
-    match decimal(s) {
-        Number::Of(v) => v,
-        Number::Malformed => other,
-    }
+    v
 }
 
 // The index after the next space, or the length.
@@ -93,7 +83,11 @@ fn number_at(line: &[u8], at: usize) -> u32
     requires { ⌜ at ≤ length (now line) ⌝ }
 {
     let end = until(line, at, b' ');
-    value_or(&line[at..end], 0)
+    let v = decimal(&line[at..end]);
+    if v > MOST {
+        return 0;
+    }
+    v as u32
 }
 
 // The record, with the numbers of its line.
@@ -129,13 +123,14 @@ fn listed(s: &[u8]) -> Recorded {
     let mut at: usize = 0;
     while at <= s.len() {
         let end = until(s, at, b',');
-        let Number::Of(v) = decimal(&s[at..end]) else {
+        let v = decimal(&s[at..end]);
+        if v > MOST {
             return Recorded::Malformed;
-        };
+        }
         if k == 7 {
             return Recorded::Malformed;
         }
-        record = with(record, k, v);
+        record = with(record, k, v as u32);
         k += 1;
         at = end + 1;
     }

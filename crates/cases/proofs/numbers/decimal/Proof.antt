@@ -26,6 +26,9 @@ mul-v c = search needs
 add-v : tie.Need-add-v Inv-loop μ-loop
 add-v c = search needs
 
+add-result : tie.Need-add-result Inv-loop μ-loop
+add-result c = search needs
+
 returns : tie.Need-returns Inv-loop μ-loop
 returns c = search needs
 
@@ -38,11 +41,11 @@ loop-less c = search needs
 loop-again : tie.Need-loop-again Inv-loop μ-loop
 loop-again c = search needs
 
+add-result-2 : tie.Need-add-result-2 Inv-loop μ-loop
+add-result-2 c = search needs
+
 returns-2 : tie.Need-returns-2 Inv-loop μ-loop
 returns-2 c = search needs
-
-cast-t13 : tie.Need-cast-t13 Inv-loop μ-loop
-cast-t13 c = search needs
 
 returns-3 : tie.Need-returns-3 Inv-loop μ-loop
 returns-3 c = search needs
@@ -58,10 +61,11 @@ decimal-spec =
     digit-requires
     mul-v
     add-v
+    add-result
     returns
     add-i
     loop-less
     loop-again
+    add-result-2
     returns-2
-    cast-t13
     returns-3)

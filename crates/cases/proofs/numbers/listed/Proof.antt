@@ -32,17 +32,14 @@ part-decimal-end c = search needs
 decimal-requires : tie.Need-decimal-requires Inv-loop μ-loop
 decimal-requires c κs = search needs
 
-enum-known-v : tie.Need-enum-known-v Inv-loop μ-loop
-enum-known-v c = search needs
-
-enum-told : tie.Need-enum-told Inv-loop μ-loop
-enum-told c = search needs
-
 returns : tie.Need-returns Inv-loop μ-loop
 returns c = search needs
 
 returns-2 : tie.Need-returns-2 Inv-loop μ-loop
 returns-2 c = search needs
+
+cast-with : tie.Need-cast-with Inv-loop μ-loop
+cast-with c = search needs
 
 with-requires : tie.Need-with-requires Inv-loop μ-loop
 with-requires c κs = search needs
@@ -75,10 +72,9 @@ listed-spec =
     part-decimal-start
     part-decimal-end
     decimal-requires
-    enum-known-v
-    enum-told
     returns
     returns-2
+    cast-with
     with-requires
     add-k
     add-at
