@@ -1,8 +1,6 @@
 // The table of calls: the forms of lines, a name with the brackets and numbers that it is given, and in the same
 // order the calls, each in what prints its answer. A new call adds a line to both. The table is in parts, since the
 // check of a function grows faster than its length.
-ghost use Prim.Native.Nat.{_≤_};
-ghost use lib.ListN.{length};
 use crate::fields::is_of;
 use crate::fields::until;
 use crate::lines::Turn;
