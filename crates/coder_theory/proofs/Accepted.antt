@@ -18,20 +18,18 @@ use Rattle.coder_theory.specs.Reasons.{leftOut, badPlace, badByte, wrong
 use Rattle.coder_theory.specs.Calls.{wordReasons, syndromeAnswer, codewordAnswer, shown, writeReasons, encodeReasons, encodeAnswer, encodeOutput}
 use Rattle.coder_theory.specs.Calls.{correctReasons, correctAnswer, correctOutput, combineReasons, combineAnswer, combineOutput}
 use Rattle.coder_theory.specs.Calls.{invertReasons, invertAnswer, invertOutput, placesReasons, thirdReasons, thirdAnswer}
-use Rattle.coder_theory.specs.Claims.{NoneApplies}
 use Rattle.coder_theory.specs.declared.Record.{Record}
-use Rattle.coder_theory.specs.declared.Corrected.{Corrected}
 use Rattle.coder_theory.proofs.Refusals.{left-applies}
-use Rattle.coder_theory.proofs.Firsts.{first-yes, first-no, first-past, none-first, none-append}
+use Rattle.coder_theory.proofs.Firsts.{NoneApplies, first-yes, first-no, first-past, none-first, none-append}
 use Rattle.coder_theory.proofs.States.{usable-true}
 use Rattle.coder_theory.proofs.Bytes.{bits-none}
 use Rattle.coder_theory.proofs.Told.{read-shows}
 
 -- ---- the reasons that a word of n bits rules out
-no-other-length : (n : ℕ) (w : List ℕ) → Word n w → wrongLength n w .applies ≡ false
+pub no-other-length : (n : ℕ) (w : List ℕ) → Word n w → wrongLength n w .applies ≡ false
 no-other-length n w h = ap not (eq-eqb (length w) n (h .places))
 
-no-bad : (n : ℕ) (w : List ℕ) → Word n w → badByte w .applies ≡ false
+pub no-bad : (n : ℕ) (w : List ℕ) → Word n w → badByte w .applies ≡ false
 no-bad n w h = ap not (eq-eqb (badPlace w) 0 (bits-none 1 w (h .bits)))
 
 pub word-none : (rec : Record) (w : List ℕ) → Usable rec → Word (placesIn rec) w → NoneApplies (wordReasons rec w)
@@ -94,14 +92,6 @@ unfolding correctAnswer correctOutput
 correct-accepts rec w out f n q h l =
     let e = none-first (correctReasons rec w (length out)) (correct-none rec w out f n q h l) in (rw e, rw e)
 
--- "Words at 4,294,967,294 is accepted once more.", and then comes 23
-pub once-more : (rec : Record) (w out : List ℕ) → Usable rec → rec .words ≡ 4294967294 → (FallsOut rec w → ⊥) → Word (placesIn rec) w → placesIn rec ≤ length out
-    → (correctAnswer rec w out .refusal ≡ 0) × (correctAnswer rec w out .«record» .words ≡ fullCount)
-unfolding counted
-once-more rec w out f e q h l =
-    let a = correct-accepts rec w out f (λ z. let c : _≡_ {A = ℕ} 4294967294 4294967295 = sym e ∙ z in omega arith) q h l .0 in
-    (ap (λ (x : Corrected). x .refusal) a, ap (λ (x : Corrected). x .«record» .words) a ∙ omega arith)
-
 -- a place that is left out is refused with 11, whatever the counts
 pub left-refused : (rec : Record) (w out : List ℕ) → Usable rec → FallsOut rec w → Word (placesIn rec) w → placesIn rec ≤ length out
     → correctAnswer rec w out ≡ record { refusal = 11; place = 0; «record» = rec }
@@ -132,7 +122,7 @@ invert-accepts rec w out f h l =
     let e = none-first (invertReasons rec w (length out)) (write-none rec (placesIn rec) w (length out) f h l) in (rw e, rw e)
 
 -- ---- the third place
-inside : (rec : Record) (p : ℕ) → 1 ≤ p → p ≤ placesIn rec → outside rec p .applies ≡ false
+pub inside : (rec : Record) (p : ℕ) → 1 ≤ p → p ≤ placesIn rec → outside rec p .applies ≡ false
 inside rec p a b = ap₂ _||_ (ne-eqb p 0 (λ z. omega arith)) (le-ltb (placesIn rec) p b)
 
 pub third-accepts : (rec : Record) (i j : ℕ) → Usable rec → 1 ≤ i → i ≤ placesIn rec → 1 ≤ j → j ≤ placesIn rec → i ≢ j → (ThirdFallsOut rec i j → ⊥)

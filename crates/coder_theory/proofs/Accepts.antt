@@ -1,27 +1,28 @@
--- Each call on a record is accepted exactly where plain facts hold: `accepts`. Its statement is in specs/Accepts. Assumes nothing.
+-- Each call on a record is accepted exactly where plain facts hold: `accepts`. Its statement is in specs/Demand1. Assumes nothing.
 use mathlib.Core.Path.{_≡_, refl, sym, ap, _∙_}
 use mathlib.Core.Logic.{_≢_, _↔_}
 use mathlib.Core.List.{List}
 use mathlib.Core.Bool.{false}
 use Prim.Native.Nat.{ℕ}
+use native.Mathlib.Omega.{arith}
 use borrow.Author.Tests.{eqb-true, ltb-false, eqb-false, not-false}
 use lib.Dec.{eqb}
 use lib.ListN.{length}
 use Rattle.words_theory.specs.Words.{Word}
 use Rattle.shortened_theory.specs.Code.{shortenedCorrected}
-use Rattle.coder_theory.specs.State.{Usable, moduliIn, placesIn, messageIn, correctedOldPlaceIn, FallsOut, ThreeIn, fullCount}
+use Rattle.coder_theory.specs.State.{Usable, moduliIn, placesIn, messageIn, correctedOldPlaceIn, FallsOut, ThreeIn, fullCount, counted}
 use Rattle.coder_theory.specs.Reasons.{wrongLength, badByte, badPlace}
 use Rattle.coder_theory.specs.Calls.{layoutReasons, wordReasons, syndromeAnswer, codewordAnswer, encodeReasons, encodeAnswer, correctAnswer}
 use Rattle.coder_theory.specs.Calls.{combineReasons, combineAnswer, invertReasons, invertAnswer, thirdReasons, thirdAnswer}
-use Rattle.coder_theory.specs.Claims.{NoneApplies, ThirdsShortened}
+use Rattle.coder_theory.specs.Demand2.{Thirds}
 use Rattle.coder_theory.specs.Demand3Shortened.{HasNear}
-use Rattle.coder_theory.specs.Accepts.{IsPlace, IsWord, HasRoom, AcceptsIn}
+use Rattle.coder_theory.specs.Demand1.{IsPlace, IsWord, HasRoom, AcceptsIn}
 use Rattle.coder_theory.specs.declared.Record.{Record}
 use Rattle.coder_theory.specs.declared.Answer.{Answer}
 use Rattle.coder_theory.specs.declared.ElementAnswer.{ElementAnswer}
 use Rattle.coder_theory.specs.declared.TestAnswer.{TestAnswer}
 use Rattle.coder_theory.specs.declared.Corrected.{Corrected}
-use Rattle.coder_theory.proofs.Firsts.{accepted-none}
+use Rattle.coder_theory.proofs.Firsts.{NoneApplies, accepted-none}
 use Rattle.coder_theory.proofs.States.{true-usable}
 use Rattle.coder_theory.proofs.Bytes.{none-bits}
 use Rattle.coder_theory.proofs.Answers.{element-refusal}
@@ -29,9 +30,9 @@ use Rattle.coder_theory.proofs.Outcomes.{inside-by, right-length}
 use Rattle.coder_theory.proofs.Corrections.{correct-accepted, nearest-in}
 use Rattle.coder_theory.proofs.Refusals.{tells}
 use Rattle.coder_theory.proofs.Accepted.{syndrome-accepts, codeword-accepts, encode-accepts, correct-accepts, combine-accepts, invert-accepts}
-use Rattle.coder_theory.proofs.Triples.{thirds-shortened}
+use Rattle.coder_theory.proofs.Triples.{thirds}
 
-word-by : (n : ℕ) (w : List ℕ) → wrongLength n w .applies ≡ false → badByte w .applies ≡ false → Word n w
+pub word-by : (n : ℕ) (w : List ℕ) → wrongLength n w .applies ≡ false → badByte w .applies ≡ false → Word n w
 word-by n w a b = record { places = right-length n w a; bits = none-bits 0 w (eqb-true (badPlace w) 0 (not-false (eqb (badPlace w) 0) b)) }
 
 -- a word that is read, and one that is read to be written
@@ -41,13 +42,13 @@ read-by rec w h = (true-usable rec (h .1 .0) (h .1 .1 .0), word-by (placesIn rec
 
 -- ---- a codeword within one place, where the place is not left out
 module _ (rec : Record) (w : List ℕ) (f : Usable rec) (h : IsWord rec w) where
-  has : (FallsOut rec w → ⊥) → HasNear (rec .t) (rec .r) (rec .s) w
+  pub has : (FallsOut rec w → ⊥) → HasNear (rec .t) (rec .r) (rec .s) w
   unfolding placesIn correctedOldPlaceIn
   has k =
       let n = nearest-in rec w f h in
       (shortenedCorrected (moduliIn rec) (rec .s) w, record { codeword = n .codeword k; near = n .near k })
 
-  kept : HasNear (rec .t) (rec .r) (rec .s) w → FallsOut rec w → ⊥
+  pub kept : HasNear (rec .t) (rec .r) (rec .s) w → FallsOut rec w → ⊥
   unfolding placesIn correctedOldPlaceIn
   kept c x = nearest-in rec w f h .none x (c .0) (c .1 .codeword) (c .1 .near)
 
@@ -59,11 +60,19 @@ correct-where rec w out = (
   λ a. ap (λ (x : Corrected). x .refusal) (correct-accepts rec w out (a .0) (a .4) (kept rec w (a .0) (a .1) (a .3)) (a .1) (a .2) .0),
 )
 
+-- "Words at 4,294,967,294 is accepted once more.", and then comes 23
+pub once-more : (rec : Record) (w out : List ℕ) → Usable rec → rec .words ≡ 4294967294 → IsWord rec w → HasRoom rec out
+    → HasNear (rec .t) (rec .r) (rec .s) w → (correctAnswer rec w out .refusal ≡ 0) × (correctAnswer rec w out .«record» .words ≡ 4294967295)
+unfolding placesIn counted
+once-more rec w out f e h l c =
+    let a = correct-accepts rec w out f (λ z. let c : _≡_ {A = ℕ} 4294967294 4294967295 = sym e ∙ z in omega arith) (kept rec w f h c) h l .0 in
+    (ap (λ (x : Corrected). x .refusal) a, ap (λ (x : Corrected). x .«record» .words) a ∙ omega arith)
+
 -- ---- the third place
 module _ (rec : Record) (i j : ℕ) where
-  three : Usable rec → IsPlace rec i → IsPlace rec j → i ≢ j → ThirdsShortened rec i j
+  pub three : Usable rec → IsPlace rec i → IsPlace rec j → i ≢ j → Thirds rec i j
   unfolding placesIn
-  three f a b n = thirds-shortened rec i j f (a .0) (a .1) (b .0) (b .1) n
+  three f a b n = thirds rec i j f (a .0) (a .1) (b .0) (b .1) n
 
   facts : thirdAnswer rec i j .refusal ≡ 0 → Usable rec × IsPlace rec i × IsPlace rec j × (i ≢ j)
   unfolding placesIn thirdAnswer

@@ -67,6 +67,18 @@ element-refusal rec p = ap (λ (y : ElementAnswer). y .refusal) (element-by rec 
     go zero = refl
     go (suc n) = refl
 
+-- its place, and its element where it is refused, are 0
+pub element-told : (rec : Record) (p : ℕ) → (elementAnswer rec p .place ≡ 0) × (elementAnswer rec p .refusal ≢ 0 → elementAnswer rec p .element ≡ 0)
+unfolding elementAnswer
+element-told rec p = go (firstReason (layoutReasons rec p) .number)
+  where
+    answer : ℕ → ElementAnswer
+    answer n = ifAccepted n (record { refusal = 0; place = 0; element = elementIn rec p }) (refusedElement n)
+
+    go : (n : ℕ) → (answer n .place ≡ 0) × (answer n .refusal ≢ 0 → answer n .element ≡ 0)
+    go zero = (refl, λ h. absurd (h refl))
+    go (suc n) = (refl, λ h. refl)
+
 pub element-state : (rec : Record) (p n : ℕ) → n ≡ firstReason (stateReasons rec) .number → n ≢ 0 → elementAnswer rec p ≡ refusedElement n
 element-state rec p n e h =
     element-by rec p (firstReason (stateReasons rec)) (state-number rec (outside rec p ∷ []) (λ z. h (e ∙ z)))

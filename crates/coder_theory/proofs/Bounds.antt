@@ -21,7 +21,7 @@ use Rattle.coder_theory.proofs.Firsts.{first-yes, first-no, first-end, 
 use Rattle.coder_theory.proofs.States.{true-usable}
 use Rattle.coder_theory.proofs.Outcomes.{inside-by}
 use Rattle.coder_theory.proofs.Corrections.{correct-accepted, nearest-in}
-use Rattle.coder_theory.proofs.Triples.{thirds-shortened}
+use Rattle.coder_theory.proofs.Triples.{thirds}
 
 -- ---- lengths
 pub places-bound : (rec : Record) → Usable rec → placesIn rec < 2 ^ longest
@@ -108,6 +108,6 @@ third-place rec i j e =
     let a = inside-by rec i (h .1 .1 .1 .0) in
     let b = inside-by rec j (h .1 .1 .1 .1 .0) in
     let p = thirdAnswer rec i j .place in
-    let k = thirds-shortened rec i j f (a .0) (a .1) (b .0) (b .1) (eqb-false i j (h .1 .1 .1 .1 .1 .0)) .some p .0 (ap (λ (x : ℕ). record { refusal = x; place = p }) e) .most in
+    let k = thirds rec i j f (a .0) (a .1) (b .0) (b .1) (eqb-false i j (h .1 .1 .1 .1 .1 .0)) .some p .0 (ap (λ (x : ℕ). record { refusal = x; place = p }) e) .most in
     let l = length-bound rec f in
     omega arith

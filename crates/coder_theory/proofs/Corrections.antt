@@ -21,10 +21,9 @@ use Rattle.shortened_theory.proofs.Guards.{fits-word, both-allowed}
 use Rattle.coder_theory.specs.State.{Usable, moduliIn, placesIn, correctedIn, correctedPlaceIn, correctedOldPlaceIn, fullCount, isBinaryIn, isPairedIn, counted, FallsOut}
 use Rattle.coder_theory.specs.Reasons.{Reason, firstReason, badPlace, leftOut, full}
 use Rattle.coder_theory.specs.Calls.{answerOf, writeReasons, correctReasons, correctAnswer, correctOutput}
-use Rattle.coder_theory.specs.Claims.{NoneApplies}
 use Rattle.coder_theory.specs.declared.Record.{Record}
 use Rattle.coder_theory.specs.declared.Answer.{Answer}
-use Rattle.coder_theory.proofs.Firsts.{first-before, first-past, accepted-none, no-place}
+use Rattle.coder_theory.proofs.Firsts.{NoneApplies, first-before, first-past, accepted-none, no-place}
 use Rattle.coder_theory.proofs.States.{true-usable, code-in, filled-in}
 use Rattle.coder_theory.proofs.Bytes.{none-bits}
 use Rattle.coder_theory.proofs.Outcomes.{if-refused, right-length, fitted}

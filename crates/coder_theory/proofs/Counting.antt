@@ -21,8 +21,8 @@ use Rattle.shortened_theory.specs.Code.{oldPlace, ShortenedCodeword, isShortene
 use Rattle.shortened_theory.specs.Claims.{NearestTo}
 use Rattle.shortened_theory.proofs.Filling.{old-within}
 use Rattle.coder_theory.specs.State.{Usable, fresh, moduliIn, placesIn, correctedPlaceIn, correctedOldPlaceIn, isBinaryIn, isPairedIn, fullCount, counted, FallsOut}
-use Rattle.coder_theory.specs.Calls.{inForce, opened, correctAnswer}
-use Rattle.coder_theory.specs.Runs.{Call, correcting, other, run, outcome, outcomes, howMany, Counts, Meant, AllMeant}
+use Rattle.coder_theory.specs.Calls.{inForce, correctAnswer}
+use Rattle.coder_theory.specs.Runs.{Call, correcting, other, run, outcome, outcomes, howMany, Counting, Meant, AllMeant, Meaning}
 use Rattle.coder_theory.specs.declared.Record.{Record}
 use Rattle.coder_theory.proofs.Corrections.{correct-accepted, nearest-in}
 use Rattle.coder_theory.proofs.Refusals.{correct-untouched, opened-fresh, opened-usable}
@@ -164,8 +164,7 @@ stays-fit rec (correcting w out ∷ xs) f = stays-fit (next rec w out) xs (go (c
 stays-fit rec (other x ∷ xs) f = stays-fit rec xs f
 
 -- ---- the theorem
-pub counts : (t r s : ℕ) → opened t r s .refusal ≡ 0 → (xs : List Call)
-    → Counts t (inForce t r) s (run (opened t r s .«record») xs) (outcomes (opened t r s .«record») xs)
+pub counts : Counting
 unfolding counted isBinaryIn isPairedIn
 counts t r s e xs =
     let k = inForce t r in
@@ -245,5 +244,5 @@ all-meant t r s rec (correcting w out ∷ xs) a b d = (
 )
 all-meant t r s rec (other x ∷ xs) a b d = all-meant t r s rec xs a b d
 
-pub meant : (t r s : ℕ) → opened t r s .refusal ≡ 0 → (xs : List Call) → AllMeant t (inForce t r) s (outcomes (opened t r s .«record») xs)
+pub meant : Meaning
 meant t r s e xs = rw (opened-fresh t r s e) (all-meant t (inForce t r) s (fresh t (inForce t r) s) xs refl refl refl)

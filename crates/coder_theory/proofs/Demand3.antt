@@ -4,11 +4,11 @@ use mathlib.Core.Path.{_≡_, sym, ap, subst, _∙_}
 use mathlib.Core.List.{List}
 use Prim.Native.Nat.{ℕ, _-_, _≤_}
 use native.Mathlib.Omega.{arith}
-use lib.ListN.{length, take}
+use lib.ListN.{take}
 use Rattle.group_theory.specs.Group.{Modulus}
 use Rattle.layout_theory.specs.Parameters.{Admitted, placesOf, messageOf, moduliFor}
 use Rattle.layout_theory.specs.Layout.{slots}
-use Rattle.words_theory.specs.Words.{Word}
+use Rattle.words_theory.specs.Words.{Word, byteAt}
 use Rattle.words_theory.specs.Halves.{isPaired}
 use Rattle.words_theory.specs.Halves as halves
 use Rattle.words_theory.specs.Coding.{corrected}
@@ -17,9 +17,7 @@ use Rattle.words_theory.proofs.Theorem.{code}
 use Rattle.shortened_theory.specs.Code.{oldPlace, shortenedOtherHalf}
 use Rattle.shortened_theory.proofs.Between.{zero-allowed}
 use Rattle.shortened_theory.proofs.Whole.{old-zero, new-zero, other-zero}
-use Rattle.coder_theory.specs.Calls.{opened}
-use Rattle.coder_theory.specs.Claims.{byteAt}
-use Rattle.coder_theory.specs.Demand3.{OwnRecord, NotFull, AcceptsMessage, encodedBy, MovedBy, AtWord, Demand3}
+use Rattle.coder_theory.specs.Demand3.{OwnRecord, AcceptsMessage, encodedBy, MovedBy, AtWord, Demand3, OpenedOwn}
 use Rattle.coder_theory.specs.Demand3Shortened.{MovedShortened, OfNear, AtShortenedWord}
 use Rattle.coder_theory.proofs.Demand3Shortened.{demand3-shortened, opened-shortened}
 
@@ -89,7 +87,5 @@ module _ (t r : ℕ) (ok : Admitted t r) where
 pub demand3 : Demand3
 demand3 t r ok w h = at-word t r ok w h
 
--- it is not empty: opening gives a record that each of the calls can have for its own, and words is not full in it
-pub opened-own : (t r : ℕ) → Admitted t r → (out : List ℕ) → placesOf t ≤ length out
-    → (o : OwnRecord t r 0) × (opened t r 0 ≡ record { refusal = 0; «record» = o .given }) × (o .output ≡ out) × NotFull o
+pub opened-own : OpenedOwn
 opened-own t r h out l = opened-shortened t r 0 h (zero-allowed t r h) out (omega arith)

@@ -6,12 +6,12 @@ use mathlib.Core.List.{List}
 use Prim.Native.Nat.{ℕ, zero, suc, _+_, _-_, _≤_}
 use native.Mathlib.Omega.{arith}
 use native.Mathlib.Decide.{ℕ-discrete}
-use lib.ListN.{length, getD, take, length-replicate}
+use lib.ListN.{getD, take, length-replicate}
 use lib.Seq.{getD-append-add}
 use Rattle.group_theory.specs.Group.{Modulus}
 use Rattle.layout_theory.specs.Parameters.{Admitted, placesOf, messageOf, moduliFor}
 use Rattle.layout_theory.specs.Layout.{slots}
-use Rattle.words_theory.specs.Words.{Word, zeroWord, flip}
+use Rattle.words_theory.specs.Words.{Word, byteAt, zeroWord, flip}
 use Rattle.words_theory.specs.Syndrome.{lengthOf}
 use Rattle.words_theory.specs.Halves as halves
 use Rattle.words_theory.specs.Claims.{messageLengthOf}
@@ -27,10 +27,9 @@ use Rattle.shortened_theory.proofs.Cutting.{other-right}
 use Rattle.shortened_theory.proofs.Between.{allowed-between}
 use Rattle.shortened_theory.proofs.Theorem as codes
 use Rattle.coder_theory.specs.State.{fresh, fullCount}
-use Rattle.coder_theory.specs.Calls.{opened, correctAnswer, correctOutput}
-use Rattle.coder_theory.specs.Claims.{byteAt}
+use Rattle.coder_theory.specs.Calls.{correctAnswer, correctOutput}
 use Rattle.coder_theory.specs.Demand3.{OwnRecord, NotFull, AcceptsMessage, encodedBy, AcceptsTwo, combinedBy, AcceptsWord, correctedBy, placeBy, MovedBy}
-use Rattle.coder_theory.specs.Demand3Shortened.{Near, HasNear, MovedShortened, OfNear, AtShortenedWord, Demand3Shortened}
+use Rattle.coder_theory.specs.Demand3Shortened.{Near, HasNear, MovedShortened, OfNear, AtShortenedWord, Demand3Shortened, OpenedShortened}
 use Rattle.coder_theory.specs.declared.Corrected.{Corrected}
 use Rattle.coder_theory.proofs.Corrections.{left-true, left-false}
 use Rattle.coder_theory.proofs.Refusals.{correct-untouched, opens, fresh-fit}
@@ -271,9 +270,7 @@ module _ (t r s : ℕ) (ok : Admitted t r) (al : Allowed t r s) where
 pub demand3-shortened : Demand3Shortened
 demand3-shortened t r s ok al w h = at-word t r s ok al w h
 
--- it is not empty: opening gives a record that each of the calls can have for its own, and words is not full in it
-pub opened-shortened : (t r s : ℕ) → Admitted t r → Allowed t r s → (out : List ℕ) → placesOf t - s ≤ length out
-    → (o : OwnRecord t r s) × (opened t r s ≡ record { refusal = 0; «record» = o .given }) × (o .output ≡ out) × NotFull o
+pub opened-shortened : OpenedShortened
 opened-shortened t r s h k out l = (
   record { given = fresh t r s; code = record { isT = refl; isR = refl; isS = refl; fit = fresh-fit t r s h }; output = out; enough = l },
   opens t r s h k,

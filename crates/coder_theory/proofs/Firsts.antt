@@ -1,17 +1,19 @@
 -- How the first reason that applies is picked, for any list of reasons. Assumes nothing.
 use mathlib.Core.Path.{_≡_, refl, sym, ap, _∙_}
-use mathlib.Core.Logic.{_≢_, inl, inr}
+use mathlib.Core.Logic.{_≢_}
 use mathlib.Core.List.{List, [], _∷_, _++_}
-use mathlib.Core.Bool.{Bool, true, false, _&&_, true≢false}
-use Prim.Native.Nat.{ℕ, zero, suc, _<_}
-use native.Mathlib.Omega.{arith}
-use lib.Dec.{leb}
-use lib.ListN.{length}
-use borrow.Author.Tests.{ltb-true, leb-true}
-use Rattle.coder_theory.specs.Reasons.{Reason, accepted, firstReason, order, before, inOrder}
-use Rattle.coder_theory.specs.Claims.{NoneApplies, SomeApplies, Given, Refuses}
+use mathlib.Core.Bool.{Bool, true, false, not, _&&_, true≢false}
+use Prim.Native.Nat.{ℕ}
+use lib.Dec.{eqb}
+use borrow.Author.Tests.{eqb-false, not-true}
+use Rattle.coder_theory.specs.Reasons.{Reason, accepted, firstReason}
 
-and-true : (a b : Bool) → (a && b) ≡ true → (a ≡ true) × (b ≡ true)
+-- none of the reasons applies
+abbrev pub NoneApplies : List Reason → Type 0
+NoneApplies [] = Unit {0}
+NoneApplies (x ∷ xs) = (x .applies ≡ false) × NoneApplies xs
+
+pub and-true : (a b : Bool) → (a && b) ≡ true → (a ≡ true) × (b ≡ true)
 and-true true b e = (refl, e)
 and-true false b e = absurd (true≢false (sym e))
 
@@ -51,31 +53,10 @@ first-last (x ∷ xs) y h = go (first-last xs y h) (x .applies) refl
     go f true a = first-yes x (xs ++ (y ∷ [])) a ∙ sym (first-yes x xs a)
     go f false a = first-no x (xs ++ (y ∷ [])) a ∙ f ∙ sym (first-no x xs a)
 
--- each of the reasons has a number
-abbrev Numbered : List Reason → Type 0
-Numbered [] = Unit {0}
-Numbered (x ∷ xs) = (x .number ≢ 0) × Numbered xs
-
--- reasons that stand in document 01's order have numbers: 0 is not among them
-in-order-first : (x : Reason) (xs : List Reason) → inOrder (x ∷ xs) ≡ true → before order (x .number) < length order
-in-order-first x [] e = ltb-true (before order (x .number)) (length order) e
-in-order-first x (y ∷ xs) e =
-    let a = and-true (leb (before order (x .number)) (before order (y .number))) (inOrder (y ∷ xs)) e in
-    let l = leb-true (before order (x .number)) (before order (y .number)) (a .0) in
-    let m = in-order-first y xs (a .1) in
-    omega arith
-
-in-order-rest : (x : Reason) (xs : List Reason) → inOrder (x ∷ xs) ≡ true → inOrder xs ≡ true
-in-order-rest x [] e = refl
-in-order-rest x (y ∷ xs) e = and-true (leb (before order (x .number)) (before order (y .number))) (inOrder (y ∷ xs)) e .1
-
-in-order-numbered : (rs : List Reason) → inOrder rs ≡ true → Numbered rs
-in-order-numbered [] e = tt
-in-order-numbered (x ∷ xs) e = ((λ z. least (x .number) z (in-order-first x xs e)), in-order-numbered xs (in-order-rest x xs e))
-  where
-    least : (n : ℕ) → n ≡ 0 → before order n < length order → ⊥
-    least zero z l = omega arith
-    least (suc n) z l = omega arith
+-- each of the reasons has a number, which a call's list computes
+abbrev pub numbered : List Reason → Bool
+numbered [] = true
+numbered (x ∷ xs) = not (eqb (x .number) 0) && numbered xs
 
 -- a call is accepted exactly where none of its reasons applies
 pub none-first : (rs : List Reason) → NoneApplies rs → firstReason rs ≡ accepted
@@ -89,51 +70,13 @@ none-append (x ∷ xs) ys h k = (h .0, none-append xs ys (h .1) k)
 pub none-accepted : (rs : List Reason) → NoneApplies rs → firstReason rs .number ≡ 0
 none-accepted rs h = ap (λ (x : Reason). x .number) (none-first rs h)
 
-pub accepted-none : (rs : List Reason) → inOrder rs ≡ true → firstReason rs .number ≡ 0 → NoneApplies rs
-accepted-none rs o e = go rs (in-order-numbered rs o) e
+pub accepted-none : (rs : List Reason) → numbered rs ≡ true → firstReason rs .number ≡ 0 → NoneApplies rs
+accepted-none [] k e = tt
+accepted-none (x ∷ xs) k e = let n = and-true (not (eqb (x .number) 0)) (numbered xs) k in go (n .0) (accepted-none xs (n .1)) (x .applies) refl
   where
-    go : (rs : List Reason) → Numbered rs → firstReason rs .number ≡ 0 → NoneApplies rs
-    go [] k e = tt
-    go (x ∷ xs) k e = step (go xs (k .1)) (x .applies) refl
-      where
-        step : (firstReason xs .number ≡ 0 → NoneApplies xs) → (b : Bool) → x .applies ≡ b → NoneApplies (x ∷ xs)
-        step f true y = absurd (k .0 (sym (ap (λ (x : Reason). x .number) (first-yes x xs y)) ∙ e))
-        step f false y = (y, f (sym (ap (λ (x : Reason). x .number) (first-no x xs y)) ∙ e))
-
--- and refused with n exactly where n is that of the first that applies
-pub given-first : (rs : List Reason) (n : ℕ) → Given rs n → firstReason rs .number ≡ n
-given-first rs n g =
-    ap (λ (r : List Reason). firstReason r .number) (g .list) ∙ go (g .before) (g .none)
-  where
-    go : (xs : List Reason) → NoneApplies xs → firstReason (xs ++ (g .reason ∷ g .after)) .number ≡ n
-    go [] h = ap (λ (x : Reason). x .number) (first-yes (g .reason) (g .after) (g .applies)) ∙ g .number
-    go (x ∷ xs) h = ap (λ (x : Reason). x .number) (first-no x (xs ++ (g .reason ∷ g .after)) (h .0)) ∙ go xs (h .1)
-
-pub first-given : (rs : List Reason) (n : ℕ) → n ≢ 0 → firstReason rs .number ≡ n → Given rs n
-first-given [] n h e = absurd (h (sym e ∙ ap (λ (x : Reason). x .number) first-end))
-first-given (x ∷ xs) n h e = go (first-given xs n h) (x .applies) refl
-  where
-    go : (firstReason xs .number ≡ n → Given xs n) → (b : Bool) → x .applies ≡ b → Given (x ∷ xs) n
-    go f true y = record {
-      before = [];
-      reason = x;
-      after = xs;
-      list = refl;
-      none = tt;
-      applies = y;
-      number = sym (ap (λ (x : Reason). x .number) (first-yes x xs y)) ∙ e;
-    }
-    go f false y =
-        let g = f (sym (ap (λ (x : Reason). x .number) (first-no x xs y)) ∙ e) in
-        record {
-          before = x ∷ g .before;
-          reason = g .reason;
-          after = g .after;
-          list = ap {B = List Reason} (λ r. x ∷ r) (g .list);
-          none = (y, g .none);
-          applies = g .applies;
-          number = g .number;
-        }
+    go : not (eqb (x .number) 0) ≡ true → (firstReason xs .number ≡ 0 → NoneApplies xs) → (b : Bool) → x .applies ≡ b → NoneApplies (x ∷ xs)
+    go n f true y = absurd (eqb-false (x .number) 0 (not-true (eqb (x .number) 0) n) (sym (ap (λ (x : Reason). x .number) (first-yes x xs y)) ∙ e))
+    go n f false y = (y, f (sym (ap (λ (x : Reason). x .number) (first-no x xs y)) ∙ e))
 
 -- none of the reasons tells a place
 abbrev pub Placeless : List Reason → Type 0
@@ -147,27 +90,6 @@ no-place (x ∷ xs) h = go (no-place xs (h .1)) (x .applies) refl
     go : firstReason xs .place ≡ 0 → (b : Bool) → x .applies ≡ b → firstReason (x ∷ xs) .place ≡ 0
     go i true y = ap (λ (x : Reason). x .place) (first-yes x xs y) ∙ h .0
     go i false y = ap (λ (x : Reason). x .place) (first-no x xs y) ∙ i
-
--- ---- the two together
-pub by-first : (x : ℕ) (rs : List Reason) → inOrder rs ≡ true → x ≡ firstReason rs .number → Refuses x rs
-by-first x rs o e = record {
-  ordered = o;
-  accepts = ((λ h. accepted-none rs o (sym e ∙ h)), (λ h. e ∙ none-accepted rs h));
-  refuses = λ n h. ((λ y. first-given rs n h (sym e ∙ y)), (λ g. e ∙ given-first rs n g));
-}
-
--- one that is refused has a reason, and the other way round
-pub refused-some : (rs : List Reason) → firstReason rs .number ≢ 0 → SomeApplies rs
-refused-some [] h = h (ap (λ (x : Reason). x .number) first-end)
-refused-some (x ∷ xs) h = go (refused-some xs) (x .applies) refl
-  where
-    go : (firstReason xs .number ≢ 0 → SomeApplies xs) → (b : Bool) → x .applies ≡ b → SomeApplies (x ∷ xs)
-    go f true y = inl y
-    go f false y = inr (f (λ z. h (ap (λ (x : Reason). x .number) (first-no x xs y) ∙ z)))
-
-pub some-refused : (rs : List Reason) → SomeApplies rs → NoneApplies rs → ⊥
-some-refused (x ∷ xs) (inl y) h = true≢false (sym y ∙ h .0)
-some-refused (x ∷ xs) (inr s) h = some-refused xs s (h .1)
 
 -- ---- the place that is told: T says what a number and a place have to do with each other. Each reason has it where it is the first that
 -- applies

@@ -11,7 +11,7 @@ use Rattle.words_theory.proofs.Theorem.{length-message-code}
 use Rattle.shortened_theory.specs.Claims.{ShortenedEncodingOf}
 use Rattle.coder_theory.specs.State.{Usable, RecordOf, moduliIn, placesIn, messageIn, CodewordIn, encodedIn}
 use Rattle.coder_theory.specs.Calls.{encodeOutput, shown}
-use Rattle.coder_theory.specs.Claims.{Encodes}
+use Rattle.coder_theory.specs.Demand2.{Encodes}
 use Rattle.coder_theory.specs.declared.Record.{Record}
 use Rattle.coder_theory.proofs.States.{usable-of, code-in}
 use Rattle.coder_theory.proofs.Accepted.{front, encode-accepts, reading-accepts}
@@ -62,6 +62,7 @@ module _ (rec : Record) (m out : List ℕ) (f : Usable rec) (h : Word (messageIn
       ∙ ap₂ (λ (n k : ℕ). take (messageOf n - k) (encodedIn rec m)) (o .isT) (o .isS) ∙ begins
 
   pub encodes : Encodes rec m out
+  unfolding placesIn messageIn
   encodes =
       record {
         accepted = encode-accepts rec m out f h l .0;

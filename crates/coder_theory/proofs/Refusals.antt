@@ -1,10 +1,10 @@
--- Demand 1, call by call: refused with x exactly where x is the first of the call's reasons that applies, and accepted exactly where none
--- does; what each reason says; and that every admitted pair opens and every place of its layout is told. Assumes nothing.
+-- What each reason says; that a refused call leaves its output alone; and that every admitted pair opens and every place of its layout is told.
+-- Assumes nothing.
 use mathlib.Core.Path.{_≡_, refl, sym, ap, subst, _∙_}
 use mathlib.Core.Logic.{_⊎_, inl, inr, ⊎-elim, _≢_, _↔_}
 use mathlib.Core.List.{List}
 use mathlib.Core.Bool.{Bool, true, false, _||_, not, true≢false}
-use Prim.Native.Nat.{ℕ, zero, suc, _≤_, _<_}
+use Prim.Native.Nat.{ℕ, zero, suc, _+_, _≤_, _<_}
 use native.Mathlib.Omega.{arith}
 use lib.Dec.{eqb, ltb}
 use lib.ListN.{length}
@@ -17,59 +17,18 @@ use Rattle.shortened_theory.specs.Code.{LeftOut, isLeftOut}
 use Rattle.shortened_theory.proofs.Between.{allows-allowed, allowed-allows, zero-allowed}
 use Rattle.coder_theory.specs.State.{Fit, Usable, fresh, isUnfit, placesIn, elementIn, fullCount}
 use Rattle.coder_theory.specs.Reasons.{notAdmitted, notAllowed, leftOut, wrongLength, shortOutput, badPlace, badByte, outside, equalPlaces, closed, unfit, full}
-use Rattle.coder_theory.specs.Calls.{inForce, openReasons, opened, layoutReasons, elementAnswer, wordReasons, syndromeAnswer, codewordAnswer}
-use Rattle.coder_theory.specs.Calls.{correctReasons, correctAnswer, correctOutput, combineReasons, combineAnswer, combineOutput}
-use Rattle.coder_theory.specs.Calls.{encodeReasons, encodeAnswer, encodeOutput, invertReasons, invertAnswer, invertOutput, thirdReasons, thirdAnswer}
-use Rattle.coder_theory.specs.Claims.{Refuses}
+use Rattle.coder_theory.specs.Calls.{inForce, opened, elementAnswer}
+use Rattle.coder_theory.specs.Calls.{correctAnswer, correctOutput, combineAnswer, combineOutput}
+use Rattle.coder_theory.specs.Calls.{encodeAnswer, encodeOutput, invertAnswer, invertOutput}
+use Rattle.coder_theory.specs.Demand1.{Unfit}
 use Rattle.coder_theory.specs.declared.Record.{Record}
 use Rattle.coder_theory.specs.declared.Opened.{Opened}
-use Rattle.coder_theory.proofs.Firsts.{by-first}
-use Rattle.coder_theory.proofs.States.{fit-true, true-fit, usable-true}
+use Rattle.coder_theory.proofs.States.{usable-true}
 use Rattle.coder_theory.proofs.Corrections.{left-false, left-true}
 use Rattle.coder_theory.proofs.Bytes.{bits-none, none-bits}
 use Rattle.coder_theory.proofs.Outcomes.{if-refused}
 use Rattle.coder_theory.proofs.Outputs.{encode-kept, combine-kept, invert-kept}
-use Rattle.coder_theory.proofs.Answers.{opened-yes, opened-not-allowed, opened-no, element-inside, element-refusal, outside-yes}
-
--- ---- "for those reasons only"
-pub open-refuses : (t r s : ℕ) → Refuses (opened t r s .refusal) (openReasons t r s)
-unfolding opened
-open-refuses t r s = by-first (opened t r s .refusal) (openReasons t r s) refl refl
-
-pub layout-refuses : (rec : Record) (p : ℕ) → Refuses (elementAnswer rec p .refusal) (layoutReasons rec p)
-layout-refuses rec p =
-    by-first (elementAnswer rec p .refusal) (layoutReasons rec p) refl
-    (element-refusal rec p)
-
-pub syndrome-refuses : (rec : Record) (w : List ℕ) → Refuses (syndromeAnswer rec w .refusal) (wordReasons rec w)
-unfolding syndromeAnswer
-syndrome-refuses rec w = by-first (syndromeAnswer rec w .refusal) (wordReasons rec w) refl refl
-
-pub codeword-refuses : (rec : Record) (w : List ℕ) → Refuses (codewordAnswer rec w .refusal) (wordReasons rec w)
-unfolding codewordAnswer
-codeword-refuses rec w = by-first (codewordAnswer rec w .refusal) (wordReasons rec w) refl refl
-
-pub encode-refuses : (rec : Record) (m out : List ℕ) → Refuses (encodeAnswer rec m out .refusal) (encodeReasons rec m (length out))
-unfolding encodeAnswer
-encode-refuses rec m out =
-    by-first (encodeAnswer rec m out .refusal) (encodeReasons rec m (length out)) refl refl
-
-pub correct-refuses : (rec : Record) (w out : List ℕ) → Refuses (correctAnswer rec w out .refusal) (correctReasons rec w (length out))
-unfolding correctAnswer
-correct-refuses rec w out = by-first (correctAnswer rec w out .refusal) (correctReasons rec w (length out)) refl refl
-
-pub combine-refuses : (rec : Record) (x y out : List ℕ) → Refuses (combineAnswer rec x y out .refusal) (combineReasons rec x y (length out))
-unfolding combineAnswer
-combine-refuses rec x y out = by-first (combineAnswer rec x y out .refusal) (combineReasons rec x y (length out)) refl refl
-
-pub invert-refuses : (rec : Record) (w out : List ℕ) → Refuses (invertAnswer rec w out .refusal) (invertReasons rec w (length out))
-unfolding invertAnswer
-invert-refuses rec w out =
-    by-first (invertAnswer rec w out .refusal) (invertReasons rec w (length out)) refl refl
-
-pub third-refuses : (rec : Record) (i j : ℕ) → Refuses (thirdAnswer rec i j .refusal) (thirdReasons rec i j)
-unfolding thirdAnswer
-third-refuses rec i j = by-first (thirdAnswer rec i j .refusal) (thirdReasons rec i j) refl refl
+use Rattle.coder_theory.proofs.Answers.{opened-yes, opened-not-allowed, opened-no, element-inside, outside-yes}
 
 -- "every buffer untouched"
 pub encode-untouched : (rec : Record) (m out : List ℕ) → encodeAnswer rec m out .refusal ≢ 0 → encodeOutput rec m out ≡ out
@@ -103,16 +62,45 @@ one-applies t r = (
 pub closed-applies : (rec : Record) → (closed rec .applies ≡ true) ↔ (rec .t ≡ 0)
 closed-applies rec = ((λ e. eqb-true (rec .t) 0 e), (λ e. eq-eqb (rec .t) 0 e))
 
--- 22: the parameters are not admitted, or words is not the sum of the other counts; r = 0 is never admitted
-pub unfit-applies : (rec : Record) → (unfit rec .applies ≡ true) ↔ (Fit rec → ⊥)
-unfit-applies rec = (
-  (λ e h. true≢false (sym e ∙ fit-true rec h .1)),
-  (λ n. go (isUnfit rec) refl n),
-)
-  where
-    go : (b : Bool) → isUnfit rec ≡ b → (Fit rec → ⊥) → isUnfit rec ≡ true
-    go true y n = y
-    go false y n = absurd (n (true-fit rec y))
+-- one of two tests holds
+or-either : (a b : Bool) → (a || b) ≡ true → (a ≡ true) ⊎ (b ≡ true)
+or-either true b e = inl refl
+or-either false b e = inr e
+
+or-left : (a b : Bool) → a ≡ true → (a || b) ≡ true
+or-left a b e = ap (λ (c : Bool). c || b) e
+
+or-right : (a b : Bool) → b ≡ true → (a || b) ≡ true
+or-right true b e = refl
+or-right false b e = e
+
+-- 22: the parameters are not admitted, r is 0, or words is not the sum of the other counts
+module _ (rec : Record) where
+  abbrev sums : ℕ
+  sums = rec .clean + rec .«corrected_binary» + rec .«corrected_pairs»
+
+  abbrev bad : Bool
+  bad = not (admits (rec .t) (rec .r))
+
+  abbrev none : Bool
+  none = eqb (rec .r) 0
+
+  abbrev other : Bool
+  other = not (eqb (rec .words) sums)
+
+  unfit-true : (bad ≡ true) ⊎ ((none || other) ≡ true) → Unfit rec
+  unfit-true (inl e) = inl (one-applies (rec .t) (rec .r) .0 e)
+  unfit-true (inr e) =
+      inr (⊎-elim (λ y. inl (eqb-true (rec .r) 0 y)) (λ y. inr (eqb-false (rec .words) sums (not-true (eqb (rec .words) sums) y))) (or-either none other e))
+
+  true-unfit : Unfit rec → (bad || (none || other)) ≡ true
+  true-unfit (inl n) = or-left bad (none || other) (one-applies (rec .t) (rec .r) .1 n)
+  true-unfit (inr (inl z)) = or-right bad (none || other) (or-left none other (eq-eqb (rec .r) 0 z))
+  true-unfit (inr (inr n)) = or-right bad (none || other) (or-right none other (ap not (ne-eqb (rec .words) sums n)))
+
+  pub unfit-applies : (unfit rec .applies ≡ true) ↔ Unfit rec
+  unfolding isUnfit
+  unfit-applies = ((λ e. unfit-true (or-either bad (none || other) e)), true-unfit)
 
 -- 10: s is not allowed
 pub allowed-applies : (t r s : ℕ) → (notAllowed t r s .applies ≡ true) ↔ (Allowed t r s → ⊥)
@@ -137,12 +125,8 @@ left-applies s q = (left-true s q, go (isLeftOut s q) refl)
 pub outside-applies : (rec : Record) (p : ℕ) → (outside rec p .applies ≡ true) ↔ ((p ≡ 0) ⊎ (placesIn rec < p))
 outside-applies rec p = (to, outside-yes rec p)
   where
-    split : (a b : Bool) → (a || b) ≡ true → (a ≡ true) ⊎ (b ≡ true)
-    split true b e = inl refl
-    split false b e = inr e
-
     to : (eqb p 0 || ltb (placesIn rec) p) ≡ true → (p ≡ 0) ⊎ (placesIn rec < p)
-    to e = ⊎-elim (λ y. inl (eqb-true p 0 y)) (λ y. inr (ltb-true (placesIn rec) p y)) (split (eqb p 0) (ltb (placesIn rec) p) e)
+    to e = ⊎-elim (λ y. inl (eqb-true p 0 y)) (λ y. inr (ltb-true (placesIn rec) p y)) (or-either (eqb p 0) (ltb (placesIn rec) p) e)
 
 -- 2: the length is another
 pub length-applies : (n : ℕ) (w : List ℕ) → (wrongLength n w .applies ≡ true) ↔ (length w ≢ n)
@@ -186,9 +170,6 @@ pub opens-zero : (t r : ℕ) → Admitted t (inForce t r) → opened t r 0 ≡ r
 opens-zero t r h =
     opened-yes t r 0 (admitted-admits t (inForce t r) h) (allowed-allows t (inForce t r) 0 (zero-allowed t (inForce t r) h))
 
-pub opens-default : (t s : ℕ) → Admitted t t → Allowed t t s → opened t 0 s ≡ record { refusal = 0; «record» = fresh t t s }
-opens-default t s h k = opened-yes t 0 s (admitted-admits t t h) (allowed-allows t t s k)
-
 -- a refused opening gives the closed record with every field 0
 pub opens-not : (t r s : ℕ) → opened t r s .refusal ≢ 0 → opened t r s .«record» ≡ fresh 0 0 0
 opens-not t r s h = go (admits t (inForce t r)) refl (allows t (inForce t r) s) refl
@@ -205,7 +186,7 @@ pub fresh-fit : (t r s : ℕ) → Admitted t r → Fit (fresh t r s)
 fresh-fit t r s h = record { admitted = h; sums = refl }
 
 -- an accepted one gives a record of the code asked for, with every count at 0
-opened-admits : (t r s : ℕ) → opened t r s .refusal ≡ 0 → (admits t (inForce t r) ≡ true) × (allows t (inForce t r) s ≡ true)
+pub opened-admits : (t r s : ℕ) → opened t r s .refusal ≡ 0 → (admits t (inForce t r) ≡ true) × (allows t (inForce t r) s ≡ true)
 opened-admits t r s h = go (admits t (inForce t r)) refl (allows t (inForce t r) s) refl
   where
     never : {x : ℕ} → opened t r s ≡ record { refusal = x; «record» = fresh 0 0 0 } → x ≢ 0 → ⊥

@@ -1,5 +1,5 @@
 -- Request C-17: what the calls on a usable record tell and write, beside what they do with s = 0: `shortens`. Its statement is in
--- specs/Claims. Assumes nothing.
+-- specs/Demand2. Assumes nothing.
 use mathlib.Core.Path.{_≡_, refl, sym, ap, ap₂, subst, _∙_}
 use mathlib.Core.Bool.{Bool}
 use mathlib.Core.List.{List}
@@ -9,26 +9,22 @@ use lib.ListN.{length, take}
 use Rattle.group_theory.specs.Group.{Modulus, number}
 use Rattle.layout_theory.specs.Parameters.{placesOf, messageOf, moduliFor}
 use Rattle.layout_theory.specs.Layout.{elementAt}
-use Rattle.words_theory.specs.Words.{Word, zeroWord, flip}
+use Rattle.words_theory.specs.Words.{Word}
 use Rattle.words_theory.specs.Syndrome.{lengthOf}
-use Rattle.words_theory.proofs.Reading.{reads-word}
-use Rattle.words_theory.proofs.Perfect.{flip-place-reads}
-use Rattle.words_theory.proofs.Thirds.{zero-word}
 use Rattle.words_theory.proofs.Theorem.{length-code, length-message-code}
 use Rattle.shortened_theory.specs.Allowed.{Allowed}
-use Rattle.shortened_theory.specs.Code.{fill, oldPlace, shortenedElementAt, shortenedSyndrome, isShortenedCodeword}
+use Rattle.shortened_theory.specs.Code.{fill, shortenedElementAt, shortenedSyndrome, isShortenedCodeword}
 use Rattle.shortened_theory.specs.Claims.{ShortenedOf}
-use Rattle.shortened_theory.proofs.Filling.{old-sum, word-fill, fill-word, fill-zero, flip-fill}
+use Rattle.shortened_theory.proofs.Filling.{old-sum, word-fill, fill-word}
 use Rattle.shortened_theory.proofs.Encodings.{fill-encode}
 use Rattle.shortened_theory.proofs.Between.{zero-allowed}
 use Rattle.shortened_theory.proofs.Theorem.{shortened-code}
 use Rattle.shortened_theory.proofs.Whole.{new-zero, element-zero, encode-zero, combine-zero, inverse-zero}
 use Rattle.coder_theory.specs.State.{Usable, RecordOf, moduliIn, placesIn, messageIn, elementIn, syndromeIn, numberIn, isCodewordIn}
 use Rattle.coder_theory.specs.Calls.{wordLength, messageLength, elementAnswer, syndromeAnswer, codewordAnswer, encodeOutput, combineOutput, invertOutput}
-use Rattle.coder_theory.specs.Claims.{Shortens}
+use Rattle.coder_theory.specs.Demand2.{Shortens, Shortening}
 use Rattle.coder_theory.specs.Demand3.{OwnRecord}
 use Rattle.coder_theory.specs.declared.Record.{Record}
-use Rattle.coder_theory.specs.declared.ElementAnswer.{ElementAnswer}
 use Rattle.coder_theory.proofs.States.{usable-true, zero-usable, code-in}
 use Rattle.coder_theory.proofs.Answers.{usable-length}
 use Rattle.coder_theory.proofs.Refusals.{tells}
@@ -104,22 +100,6 @@ module _ (rec whole : Record) (f : Usable rec) (c : RecordOf (rec .t) (rec .r) 0
   by-t : {w : List ℕ} → Word (lengthOf ms - rec .s) w → Word k w
   by-t {w} h = subst (λ (m : ℕ). Word (m - rec .s) w) (length-code (rec .t) (rec .r) (f .fit .admitted)) h
 
-  one-word : (p : ℕ) → Word k (flip p (zeroWord k))
-  one-word p =
-      let l = length-code (rec .t) (rec .r) (f .fit .admitted) in
-      let z : fill (rec .s) (flip p (zeroWord k)) ≡ flip (oldPlace (rec .s) p) (zeroWord (lengthOf ms)) =
-      flip-fill (rec .s) p (zeroWord k) ∙ ap (flip (oldPlace (rec .s) p)) (fill-zero n (rec .s) few ∙ ap zeroWord (sym l)) in
-      by-t (fill-word (lengthOf ms) (rec .s) (subst (Word (lengthOf ms)) (sym z) (reads-word ms (flip-place-reads ms (zero-word ms) (oldPlace (rec .s) p)))))
-
-  ones : (p : ℕ) → 0 < p → p ≤ k → syndromeAnswer rec (flip p (zeroWord k)) .element ≡ elementAnswer rec p .element
-  unfolding placesIn elementIn syndromeIn numberIn
-  ones p a b =
-      let l = length-code (rec .t) (rec .r) (f .fit .admitted) in
-      ap (λ (x : ElementAnswer). x .element) (syndrome-accepts rec (flip p (zeroWord k)) f (one-word p))
-      ∙ ap (number ms)
-      (ap (λ (m : ℕ). shortenedSyndrome ms (rec .s) (flip p (zeroWord (m - rec .s)))) (sym l) ∙ code-in rec f .groups .ones p (rw l b))
-      ∙ sym (ap (λ (x : ElementAnswer). x .element) (tells rec p f a b))
-
   -- ---- what is written, with an output of its own
   abbrev own : (out : List ℕ) → k ≤ length out → OwnRecord (rec .t) (rec .r) (rec .s)
   own out l = record { given = rec; code = record { isT = refl; isR = refl; isS = refl; fit = f .fit }; output = out; enough = l }
@@ -180,17 +160,19 @@ module _ (rec whole : Record) (f : Usable rec) (c : RecordOf (rec .t) (rec .r) 0
       ∙ sym (invert-does none (own-whole v l′) (fill (rec .s) w) (less g) (by-n (entire .groups .inverts (fill (rec .s) w) e .0)))
       ∙ all (invertOutput whole (fill (rec .s) w) v)
 
-  pub shortens : Shortens rec whole
+  all-of : Shortens rec whole
   unfolding wordLength messageLength placesIn messageIn
-  shortens =
+  all-of =
       record {
         places = usable-length rec (placesIn rec) (usable-true rec f);
         message = usable-length rec (messageIn rec) (usable-true rec f);
-        elements = elements;
+        elements = λ p l. elements p (l .0) (l .1);
         syndromes = syndromes;
         tests = tests;
-        ones = ones;
         encodes = encodes;
         combines = combines;
         inverts = inverts;
       }
+
+pub shortens : Shortening
+shortens rec whole f c = all-of rec whole f c

@@ -1,9 +1,9 @@
 -- "place 0 except for 4": what place each call tells, and that reading shows an empty part exactly where it must. Assumes nothing.
 use mathlib.Core.Path.{_≡_, refl, sym, ap, subst, _∙_}
-use mathlib.Core.Logic.{_⊎_, inl, inr, _≢_, _↔_}
+use mathlib.Core.Logic.{inl, inr, _≢_}
 use mathlib.Core.List.{List, [], _∷_, _++_}
-use mathlib.Core.Bool.{Bool, true, false}
-use Prim.Native.Nat.{ℕ, zero, suc, _≤_}
+use mathlib.Core.Bool.{true, false}
+use Prim.Native.Nat.{ℕ, _≤_}
 use native.Mathlib.Omega.{arith}
 use borrow.Author.Tests.{eqb-true, eqb-false, not-true, not-false}
 use lib.Dec.{eqb}
@@ -13,11 +13,11 @@ use Rattle.coder_theory.specs.State.{Usable, placesIn, correctedOldPlace
 use Rattle.coder_theory.specs.Reasons.{Reason, firstReason, leftOut, badPlace, badByte, full}
 use Rattle.coder_theory.specs.Calls.{wordReasons, syndromeAnswer, codewordAnswer, shown, writeReasons, encodeReasons, encodeAnswer}
 use Rattle.coder_theory.specs.Calls.{correctReasons, correctAnswer, combineReasons, combineAnswer, invertReasons, invertAnswer, thirdReasons, thirdAnswer}
-use Rattle.coder_theory.specs.Claims.{NoneApplies, SomeApplies, Lowest, TellsPlace, TellsPlaceOfTwo}
+use Rattle.coder_theory.specs.Demand1.{Lowest, TellsPlace, TellsPlaceOfTwo}
 use Rattle.coder_theory.specs.declared.Record.{Record}
-use Rattle.coder_theory.proofs.Firsts.{AllTell, no-place, none-accepted, accepted-none, refused-some, some-refused, first-tells}
+use Rattle.coder_theory.proofs.Firsts.{NoneApplies, AllTell, no-place, none-accepted, first-tells}
 use Rattle.coder_theory.proofs.Bytes.{none-bits, lowest}
-use Rattle.coder_theory.proofs.Outcomes.{if-refused, word-accepted, shown-refused, shown-other, shown-codeword}
+use Rattle.coder_theory.proofs.Outcomes.{if-refused, word-accepted, shown-codeword}
 
 -- ---- the place: a reason other than 4 tells 0, and 4 the lowest place
 other : (n : ℕ) (w : List ℕ) → n ≢ 4 → TellsPlace n 0 w
@@ -160,23 +160,3 @@ read-shows rec w h y =
     let s = shown-codeword rec w e y in
     let l = length-take-le (messageIn rec) w (omega (arith, q .1)) in
     (s, omega (arith, ap length s, l))
-
--- "It shows an empty part exactly when the record or word would be refused or the word is no codeword."
-pub reads-empty : (rec : Record) (w : List ℕ) → (shown rec w ≡ []) ↔ (SomeApplies (wordReasons rec w) ⊎ (isCodewordIn rec w ≡ false))
-reads-empty rec w = (to (firstReason (wordReasons rec w) .number) refl (isCodewordIn rec w) refl, from)
-  where
-    to : (n : ℕ) → firstReason (wordReasons rec w) .number ≡ n → (b : Bool) → isCodewordIn rec w ≡ b
-        → shown rec w ≡ [] → SomeApplies (wordReasons rec w) ⊎ (isCodewordIn rec w ≡ false)
-    to (suc n) e b y z = inl (refused-some (wordReasons rec w) (λ q. let c : suc n ≡ 0 = sym e ∙ q in omega arith))
-    to zero e false y z = inr y
-    to zero e true y z =
-        let l = read-shows rec w (accepted-none (wordReasons rec w) refl e) y .1 in
-        absurd (omega (arith, ap length z))
-
-    from : SomeApplies (wordReasons rec w) ⊎ (isCodewordIn rec w ≡ false) → shown rec w ≡ []
-    from (inl s) = shown-refused rec w (λ z. some-refused (wordReasons rec w) s (accepted-none (wordReasons rec w) refl z))
-    from (inr y) = no (firstReason (wordReasons rec w) .number) refl
-      where
-        no : (n : ℕ) → firstReason (wordReasons rec w) .number ≡ n → shown rec w ≡ []
-        no zero e = shown-other rec w e y
-        no (suc n) e = shown-refused rec w (λ q. let c : suc n ≡ 0 = sym e ∙ q in omega arith)

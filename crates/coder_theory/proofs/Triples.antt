@@ -7,18 +7,20 @@ use Prim.Native.Nat.{ℕ, _-_, _≤_, _<_}
 use native.Mathlib.Omega.{arith}
 use lib.ListN.{length, take, drop}
 use Rattle.layout_theory.specs.Parameters.{placesOf, moduliFor}
+use Rattle.layout_theory.specs.Layout.{slots}
 use Rattle.words_theory.specs.Words.{Word, zeroWord}
+use Rattle.words_theory.specs.Words as words
 use Rattle.words_theory.proofs.Theorem.{length-code}
 use Rattle.shortened_theory.specs.Allowed.{Allowed}
-use Rattle.shortened_theory.specs.Code.{LeftOut, shortenedCombine, isLeftOut}
+use Rattle.shortened_theory.specs.Code.{fill, LeftOut, shortenedCombine, isLeftOut}
 use Rattle.shortened_theory.specs.Claims.{ShortenedGroupOf, ShortenedThirdOf}
 use Rattle.shortened_theory.proofs.Whole.{none-left}
-use Rattle.coder_theory.specs.State.{Fit, Usable, RecordOf, moduliIn, placesIn, CodewordIn, combineIn, inverseIn, thirdIn, thirdOldPlaceIn, ThreeIn, ThirdFallsOut}
+use Rattle.coder_theory.specs.State.{Usable, RecordOf, moduliIn, placesIn, CodewordIn, combineIn, inverseIn, thirdIn, thirdOldPlaceIn, ThreeIn, ThirdFallsOut}
 use Rattle.coder_theory.specs.Calls.{combineOutput, invertOutput, thirdAnswer}
-use Rattle.coder_theory.specs.Claims.{Combines, Inverts, Thirds, ThirdsShortened}
+use Rattle.coder_theory.specs.Demand2.{Combines, Inverts, Thirds}
 use Rattle.coder_theory.specs.declared.Record.{Record}
 use Rattle.coder_theory.specs.declared.Answer.{Answer}
-use Rattle.coder_theory.proofs.States.{usable-of, zero-usable, code-in, word-in}
+use Rattle.coder_theory.proofs.States.{usable-of, code-in, word-in}
 use Rattle.coder_theory.proofs.Corrections.{left-true, left-false}
 use Rattle.coder_theory.proofs.Accepted.{front, combine-accepts, invert-accepts, third-accepts, third-left}
 
@@ -48,6 +50,10 @@ module _ (rec : Record) (x y out : List ℕ) (f : Usable rec) (h : Word (placesI
       subst (λ (n : ℕ). Word (n - rec .s) (combineIn rec x y)) (length-code (rec .t) (rec .r) (f .fit .admitted))
       (laws .closed x y (word-in rec f h) (word-in rec f k))
 
+  added : fill (rec .s) (combineIn rec x y) ≡ words.combine (slots (moduliIn rec)) (fill (rec .s) x) (fill (rec .s) y)
+  unfolding combineIn
+  added = code-in rec f .commutes .combines x y
+
   -- codewords are closed
   combined-codeword : CodewordIn rec x → CodewordIn rec y → CodewordIn rec (combineIn rec x y)
   unfolding combineIn
@@ -59,6 +65,7 @@ module _ (rec : Record) (x y out : List ℕ) (f : Usable rec) (h : Word (placesI
   either-order other c o m = combined-front (rec .t) (rec .r) (rec .s) other (f .allowed) c y x o k h m ∙ laws .commutes y x
 
   pub combines : Combines rec x y out
+  unfolding placesIn
   combines =
       let a = combine-accepts rec x y out f h k l in
       let p = front (placesIn rec) (combineIn rec x y) out (combined-word .places) in
@@ -66,6 +73,7 @@ module _ (rec : Record) (x y out : List ℕ) (f : Usable rec) (h : Word (placesI
       record {
         accepted = a .0;
         word = rw e combined-word;
+        adds = ap (fill (rec .s)) e ∙ added;
         either = λ other c o m. either-order other c o m ∙ sym e;
         codeword = λ c d. rw e (combined-codeword c d);
         further = ap (drop (placesIn rec)) (a .1) ∙ p .1;
@@ -96,11 +104,17 @@ module _ (rec : Record) (w out : List ℕ) (f : Usable rec) (h : Word (placesIn 
       ap (λ (v : List ℕ). take (placesIn rec) (combineOutput other w v o)) (parts .0)
       ∙ combined-front (rec .t) (rec .r) (rec .s) other (f .allowed) c w (inverseIn rec w) o h (inverse-word .0) m ∙ inverse-word .1
 
+  swapped : fill (rec .s) (inverseIn rec w) ≡ words.inverse (slots (moduliIn rec)) (fill (rec .s) w)
+  unfolding inverseIn
+  swapped = code-in rec f .commutes .inverts w
+
   pub inverts : Inverts rec w out
+  unfolding placesIn
   inverts =
       record {
         accepted = invert-accepts rec w out f h l .0;
         word = rw (parts .0) (inverse-word .0);
+        swaps = ap (fill (rec .s)) (parts .0) ∙ swapped;
         makesZero = makes-zero;
         further = parts .1;
       }
@@ -133,15 +147,16 @@ module _ (rec : Record) (i j : ℕ) (f : Usable rec) (a : 0 < i) (b : i ≤ plac
   number-is : {x k : ℕ} → thirdAnswer rec i j ≡ record { refusal = x; place = k } → thirdAnswer rec i j .refusal ≡ x
   number-is e = ap (λ (y : Answer). y .refusal) e
 
-  pub thirds-shortened : ThirdsShortened rec i j
-  thirds-shortened = go (isLeftOut (rec .s) (thirdOldPlaceIn rec i j)) refl
+  pub thirds : Thirds rec i j
+  thirds = go (isLeftOut (rec .s) (thirdOldPlaceIn rec i j)) refl
     where
-      go : (x : Bool) → isLeftOut (rec .s) (thirdOldPlaceIn rec i j) ≡ x → ThirdsShortened rec i j
+      go : (x : Bool) → isLeftOut (rec .s) (thirdOldPlaceIn rec i j) ≡ x → Thirds rec i j
       go true y =
           let q = left-true (rec .s) (thirdOldPlaceIn rec i j) y in
           record {
             some = λ k. ((λ e. let z : _≡_ {A = ℕ} 11 0 = sym (number-is (refused q)) ∙ number-is e in absurd (omega arith)), λ x. absurd (only k x .0 q));
             none = ((λ e k x. only k x .0 q), λ h. number-is (refused q));
+            one = λ z. absurd (none-left _ (subst (λ (s : ℕ). LeftOut s (thirdOldPlaceIn rec i j)) z q));
           }
       go false y =
           let q = left-false (rec .s) (thirdOldPlaceIn rec i j) y in
@@ -151,17 +166,5 @@ module _ (rec : Record) (i j : ℕ) (f : Usable rec) (a : 0 < i) (b : i ≤ plac
               λ x. told q ∙ ap (λ (p : ℕ). record { refusal = 0; place = p }) (sym (only k x .1)),
             );
             none = ((λ e. let z : _≡_ {A = ℕ} 0 11 = sym (number-is (told q)) ∙ e in absurd (omega arith)), λ h. absurd (h (thirdIn rec i j) (makes q)));
+            one = λ z. subst (ThreeIn rec i j) (sym (ap (λ (y : Answer). y .place) (told q))) (makes q);
           }
-
--- with s = 0 no place is left out
-pub thirds : (rec : Record) (i j : ℕ) → Fit rec → rec .s ≡ 0 → 0 < i → i ≤ placesIn rec → 0 < j → j ≤ placesIn rec → i ≢ j → Thirds rec i j
-thirds rec i j f z a b c d n =
-    let u = zero-usable rec f z in
-    let q : ThirdFallsOut rec i j → ⊥ = λ x. none-left _ (subst (λ (s : ℕ). LeftOut s (thirdOldPlaceIn rec i j)) z x) in
-    let e = told rec i j u a b c d n q in
-    let p = ap (λ (x : Answer). x .place) e in
-    record {
-      accepted = ap (λ (x : Answer). x .refusal) e;
-      makes = rw p (makes rec i j u a b c d n q);
-      only = λ k t. only rec i j u a b c d n k t .1 ∙ sym p;
-    }

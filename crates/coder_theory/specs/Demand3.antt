@@ -1,4 +1,4 @@
--- Demand 3 of the calls: `Demand3`, at the end. The theorem is `demand3 : Demand3` (proofs/Demand3). Assumes nothing.
+-- Demand 3 of the calls: `Demand3`, at the end. The theorems are `demand3 : Demand3` and `opened-own : OpenedOwn` (proofs/Demand3). Assumes nothing.
 use mathlib.Core.Path.{_≡_}
 use mathlib.Core.Logic.{_≢_, _↔_}
 use mathlib.Core.Bool.{Bool, true, false}
@@ -7,12 +7,11 @@ use Prim.Native.Nat.{ℕ, _-_, _≤_}
 use lib.ListN.{length, take}
 use Rattle.layout_theory.specs.Parameters.{Admitted, placesOf, messageOf, moduliFor}
 use Rattle.layout_theory.specs.Layout.{slots}
-use Rattle.words_theory.specs.Words.{Word, distance, flip}
+use Rattle.words_theory.specs.Words.{Word, byteAt, distance, flip}
 use Rattle.words_theory.specs.Syndrome.{Codeword}
 use Rattle.words_theory.specs.Halves.{isPaired, otherHalf}
 use Rattle.coder_theory.specs.State.{RecordOf, fullCount}
-use Rattle.coder_theory.specs.Calls.{encodeAnswer, encodeOutput, correctAnswer, correctOutput, combineAnswer, combineOutput}
-use Rattle.coder_theory.specs.Claims.{byteAt}
+use Rattle.coder_theory.specs.Calls.{opened, encodeAnswer, encodeOutput, correctAnswer, correctOutput, combineAnswer, combineOutput}
 use Rattle.coder_theory.specs.declared.Record.{Record}
 
 -- "Each of these calls .. may have an open and fit record of its own, with the same t and r" (document 01), and an output long enough,
@@ -95,3 +94,8 @@ pub record AtWord (t r : ℕ) (w : List ℕ) : Type 0 where
 -- "For every admitted t and r and every word of length n"
 abbrev pub Demand3 : Type 0
 Demand3 = (t r : ℕ) → Admitted t r → (w : List ℕ) → Word (placesOf t) w → AtWord t r w
+
+-- none of it is empty: opening gives a record that each of the calls can have for its own, and words is not full in it
+abbrev pub OpenedOwn : Type 0
+OpenedOwn = (t r : ℕ) → Admitted t r → (out : List ℕ) → placesOf t ≤ length out
+    → (o : OwnRecord t r 0) × (opened t r 0 ≡ record { refusal = 0; «record» = o .given }) × (o .output ≡ out) × NotFull o

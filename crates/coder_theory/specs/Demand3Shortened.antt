@@ -1,18 +1,17 @@
 -- What request C-17 says of demand 3: "for any other allowed s, the same in each record, a word has at most one codeword within one place,
--- which correction gives on the same terms where there is one". The theorem is `demand3-shortened : Demand3Shortened`
--- (proofs/Demand3Shortened), for every allowed s, 0 among them. Assumes nothing.
+-- which correction gives on the same terms where there is one". The theorems are `demand3-shortened : Demand3Shortened`, for every allowed s, 0
+-- among them, and `opened-shortened : OpenedShortened` (proofs/Demand3Shortened). Assumes nothing.
 use mathlib.Core.Path.{_≡_}
 use mathlib.Core.Logic.{_≢_, _↔_}
 use mathlib.Core.Bool.{true, false}
 use mathlib.Core.List.{List}
 use Prim.Native.Nat.{ℕ, _-_, _≤_}
-use lib.ListN.{take}
+use lib.ListN.{length, take}
 use Rattle.layout_theory.specs.Parameters.{Admitted, placesOf, messageOf, moduliFor}
-use Rattle.words_theory.specs.Words.{Word, distance, flip}
+use Rattle.words_theory.specs.Words.{Word, byteAt, distance, flip}
 use Rattle.shortened_theory.specs.Allowed.{Allowed}
 use Rattle.shortened_theory.specs.Code.{ShortenedCodeword, isShortenedPaired, shortenedOtherHalf}
-use Rattle.coder_theory.specs.Calls.{correctAnswer, correctOutput}
-use Rattle.coder_theory.specs.Claims.{byteAt}
+use Rattle.coder_theory.specs.Calls.{opened, correctAnswer, correctOutput}
 use Rattle.coder_theory.specs.Demand3.{OwnRecord, NotFull, AcceptsMessage, encodedBy, AcceptsTwo, combinedBy, AcceptsWord, correctedBy, placeBy}
 
 -- c is a codeword that differs from w in at most one place
@@ -66,3 +65,8 @@ pub record AtShortenedWord (t r s : ℕ) (w : List ℕ) : Type 0 where
 
 abbrev pub Demand3Shortened : Type 0
 Demand3Shortened = (t r s : ℕ) → Admitted t r → Allowed t r s → (w : List ℕ) → Word (placesOf t - s) w → AtShortenedWord t r s w
+
+-- none of it is empty, as for demand 3
+abbrev pub OpenedShortened : Type 0
+OpenedShortened = (t r s : ℕ) → Admitted t r → Allowed t r s → (out : List ℕ) → placesOf t - s ≤ length out
+    → (o : OwnRecord t r s) × (opened t r s ≡ record { refusal = 0; «record» = o .given }) × (o .output ≡ out) × NotFull o

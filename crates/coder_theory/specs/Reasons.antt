@@ -1,10 +1,10 @@
 -- Document 01, "Turned back because of the input" and "because of the state", and request C-17 (10, 11): each reason with its number and
 -- whether it applies.
 -- Assumes nothing.
-use mathlib.Core.Bool.{Bool, true, false, _&&_, _||_, not}
+use mathlib.Core.Bool.{Bool, true, false, _||_, not}
 use mathlib.Core.List.{List, [], _∷_}
 use Prim.Native.Nat.{ℕ, suc}
-use lib.Dec.{eqb, ltb, leb}
+use lib.Dec.{eqb, ltb}
 use lib.ListN.{length}
 use Rattle.layout_theory.specs.Choice.{pick}
 use Rattle.layout_theory.specs.Parameters.{admits}
@@ -30,21 +30,6 @@ accepted = because 0 false
 unfoldable pub firstReason : List Reason → Reason
 firstReason [] = accepted
 firstReason (x ∷ xs) = elim (x .applies) [ true ↦ x | false ↦ firstReason xs ]
-
--- "Order: 7, 1, 21, 22, 2, 3, 4, 5, 6, 23."; 10 "after 1 at opening and right after 22 elsewhere", 11 "after 6 .. and before 23"
-abbrev pub order : List ℕ
-order = 7 ∷ 1 ∷ 21 ∷ 22 ∷ 10 ∷ 2 ∷ 3 ∷ 4 ∷ 5 ∷ 6 ∷ 11 ∷ 23 ∷ []
-
--- how many of the numbers come before n
-abbrev pub before : List ℕ → ℕ → ℕ
-before [] n = 0
-before (x ∷ xs) n = pick (eqb n x) 0 (suc (before xs n))
-
--- whether reasons have numbers of that order, and stand in it; a number may stand twice, for the first word and the second
-abbrev pub inOrder : List Reason → Bool
-inOrder [] = true
-inOrder (x ∷ []) = ltb (before order (x .number)) (length order)
-inOrder (x ∷ y ∷ xs) = leb (before order (x .number)) (before order (y .number)) && inOrder (y ∷ xs)
 
 -- "1. Parameters not admitted (opening, C calls, sheet)."
 abbrev pub notAdmitted : ℕ → ℕ → Reason

@@ -1,6 +1,6 @@
 -- Demand 2: "the counts in a record that is handed on unaltered from call to call equal what the accepted corrections since its opening came
--- to". A run of calls, what its corrections came to, and the counts. The theorems are `counts` and `meant` (proofs/Counting): `Counts` and
--- `AllMeant` hold of every run from an opening that is accepted. Assumes nothing.
+-- to". A run of calls, what its corrections came to, and the counts. The theorems are `counts : Counting` and `meant : Meaning`
+-- (proofs/Counting): every opening that is accepted, and every list of calls. Assumes nothing.
 use mathlib.Core.Path.{_≡_}
 use mathlib.Core.Logic.{_↔_, _⊎_}
 use mathlib.Core.Bool.{Bool, true, _&&_}
@@ -12,7 +12,7 @@ use Rattle.layout_theory.specs.Parameters.{placesOf, messageOf, binaryOf, modul
 use Rattle.words_theory.specs.Words.{Word, flip}
 use Rattle.shortened_theory.specs.Code.{ShortenedCodeword, isShortenedBinary, isShortenedPaired}
 use Rattle.coder_theory.specs.State.{Usable, fullCount}
-use Rattle.coder_theory.specs.Calls.{correctAnswer}
+use Rattle.coder_theory.specs.Calls.{inForce, opened, correctAnswer}
 use Rattle.coder_theory.specs.declared.Record.{Record}
 
 -- the public calls other than correction, with any arguments beside the record; an output is given by what it holds before the call
@@ -72,6 +72,10 @@ pub record Counts (t r s : ℕ) (rec : Record) (xs : List Outcome) : Type 0 wher
   -- "Each accepted correction adds one to words and to one of the other three": so the record stays usable
   pub usable : Usable rec
 
+abbrev pub Counting : Type 0
+Counting = (t r s : ℕ) → opened t r s .refusal ≡ 0 → (xs : List Call)
+    → Counts t (inForce t r) s (run (opened t r s .«record») xs) (outcomes (opened t r s .«record») xs)
+
 -- what an accepted correction's place says of the word: place 0 that it was a codeword, a binary place or one of a pair that it is a codeword
 -- with this place flipped. There is no other kind, and the binary places are those that were of part 1, the first k − a, and of part 3, a after the
 -- message, before the first s were left out
@@ -86,3 +90,6 @@ pub record Meant (t r s : ℕ) (x : Outcome) : Type 0 where
 abbrev pub AllMeant : ℕ → ℕ → ℕ → List Outcome → Type 0
 AllMeant t r s [] = Unit {0}
 AllMeant t r s (x ∷ xs) = (x .refusal ≡ 0 → Meant t r s x) × AllMeant t r s xs
+
+abbrev pub Meaning : Type 0
+Meaning = (t r s : ℕ) → opened t r s .refusal ≡ 0 → (xs : List Call) → AllMeant t (inForce t r) s (outcomes (opened t r s .«record») xs)

@@ -8,6 +8,7 @@ use native.Mathlib.Omega.{arith}
 use lib.Dec.{T, eqb, eqb→eq, eqb-refl}
 use lib.ListN.{getD}
 use Rattle.group_theory.specs.Group.{Modulus, one, two, four, hd, tl, Valid, zeros, negative}
+use Rattle.group_theory.specs.Claims.{FirstOdd}
 use Rattle.group_theory.specs.Sign.{same, allZero, isUnit, oddOr, lead}
 use Rattle.group_theory.proofs.Laws.{valid-negative, negative-negative, negative-zeros}
 
@@ -137,10 +138,6 @@ own-even ms e h p = go (lead-cases ms e) (ap (lead ms) (sym p) ∙ lead-negative
     go minus q = absurd (omega arith)
 
 -- where it is not 0 it is the first odd one: it stands at a quaternary component, and the quaternary components before it are even
-abbrev pub FirstOdd : List Modulus → List ℕ → ℕ → Type 0
-FirstOdd ms e i =
-    (getD ms i one ≡ four) × (getD e i 0 % 2 ≡ 1) × ((j : ℕ) → j < i → getD ms j one ≡ four → getD e j 0 % 2 ≡ 0)
-
 abbrev Leads : List Modulus → List ℕ → ℕ → Type 0
 Leads ms e l = (i : ℕ) × FirstOdd ms e i × (getD e i 0 ≡ l)
 

@@ -9,9 +9,9 @@ use lib.Pow.{pow-pos}
 use Rattle.group_theory.specs.Group.{Modulus, one, two, four, number, element, size}
 use Rattle.group_theory.proofs.Laws.{valid-element}
 use Rattle.group_theory.proofs.Numbers.{element-number, number-element, number-zeros}
-use Rattle.layout_theory.specs.Parameters.{Admitted, placesOf, moduliFor}
+use Rattle.layout_theory.specs.Parameters.{placesOf, moduliFor}
 use Rattle.layout_theory.specs.Layout.{Slot, single, pair, singles, pairs, zeroFirst, units, message, slots, elementAt}
-use Rattle.layout_theory.specs.Claims.{singleSlots, pairSlots, LayoutOf}
+use Rattle.layout_theory.specs.Claims.{singleSlots, pairSlots, Layouts}
 use Rattle.layout_theory.proofs.Sizes.{twos, fours, length-message}
 use Rattle.layout_theory.proofs.Places.{good-slots, valid-at-place, one-place}
 use Rattle.layout_theory.proofs.Parameters.{size-for, twos-for, fours-for, singles-for, pairs-for, message-for, length-for}
@@ -62,7 +62,7 @@ of-slots ms =
     let g = of-units ms in
     (omega (arith, e .0, f .0, g .0), omega (arith, e .1, f .1, g .1))
 
-pub layout : (t r : ℕ) → Admitted t r → LayoutOf t r
+pub layout : Layouts
 layout t r h =
     let ms = moduliFor t r in
     let o = of-slots ms in

@@ -18,7 +18,7 @@ use Rattle.layout_theory.specs.Layout.{Slot, single, pair, singles, pairs, mess
 use Rattle.layout_theory.proofs.Parameters.{singles-for, message-for, below-power}
 use Rattle.words_theory.proofs.Theorem.{length-message-code}
 use Rattle.shortened_theory.specs.Allowed.{EndsWhole, over, endsWhole, partOf, Allowed, allows}
-use Rattle.shortened_theory.specs.Claims.{EndsBetween}
+use Rattle.shortened_theory.specs.Claims.{EndsBetween, AllowedClaim}
 use Rattle.shortened_theory.proofs.Cutting.{length-places-append}
 
 -- ---- slots cut after so many places
@@ -185,3 +185,6 @@ above-power (suc t) h = let i = below-power t in rw pow-succ' (omega arith)
 
 pub zero-allowed : (t r : ℕ) → Admitted t r → Allowed t r 0
 zero-allowed t r ok = record { ends = inl (omega arith); stays = let k = above-power t (ok .least) in omega arith }
+
+pub allowed-s : AllowedClaim
+allowed-s = record { test = λ t r s. (allows-allowed t r s, allowed-allows t r s); between = allowed-between; zero = zero-allowed }

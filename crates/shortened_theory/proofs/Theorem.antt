@@ -11,7 +11,7 @@ use Rattle.words_theory.specs.Syndrome.{lengthOf}
 use Rattle.words_theory.proofs.Theorem.{length-code, length-message-code}
 use Rattle.shortened_theory.specs.Allowed.{Allowed}
 use Rattle.shortened_theory.specs.Code.{shortenedEncode}
-use Rattle.shortened_theory.specs.Claims.{EndsBetween, ShortenedOf}
+use Rattle.shortened_theory.specs.Claims.{EndsBetween, ShortenedOf, ShortenedCodes}
 use Rattle.shortened_theory.proofs.Filling.{fills}
 use Rattle.shortened_theory.proofs.Cutting.{front, commutes, groups}
 use Rattle.shortened_theory.proofs.Nearest.{nearest}
@@ -33,8 +33,8 @@ module _ (t r s : ℕ) (ok : Admitted t r) (al : Allowed t r s) where
   pub word-shortened : {w : List ℕ} → Word (placesOf t - s) w → Word (lengthOf ms - s) w
   word-shortened {w} h = subst (λ (n : ℕ). Word (n - s) w) (sym (length-code t r ok)) h
 
-  pub shortened-code : ShortenedOf t r s
-  shortened-code =
+  gathered : ShortenedOf t r s
+  gathered =
       let n = length-code t r ok in
       let m = length-message-code t r ok in
       record {
@@ -47,3 +47,6 @@ module _ (t r s : ℕ) (ok : Admitted t r) (al : Allowed t r s) where
         carries = λ d w k h. carried ms s cut fits d w k (word-shortened h);
         thirds = λ i j a b c d e. thirds ms s fits i j a (rw n b) c (rw n d) e;
       }
+
+pub shortened-code : ShortenedCodes
+shortened-code t r s ok al = gathered t r s ok al

@@ -15,7 +15,7 @@ use Rattle.words_theory.specs.Coding.{onesAt}
 use Rattle.words_theory.specs.Coding as coding
 use Rattle.words_theory.specs.Claims as claims
 use Rattle.shortened_theory.specs.Code.{oldPlace, newPlace, LeftOut, shortenedSyndrome, shortenedElementAt, shortenedEncode, shortenedCombine, shortenedInverse, shortenedCorrected, shortenedCorrectedPlace, correctedOldPlace, shortenedThird, thirdOldPlace, shortenedWidth, shortenedOtherHalf, shortenedMoved}
-use Rattle.shortened_theory.specs.Claims.{WholeOf, ShortenedThreeAt}
+use Rattle.shortened_theory.specs.Claims.{WholeOf, Whole, ShortenedThreeAt}
 
 pub old-zero : (p : ℕ) → oldPlace 0 p ≡ p
 old-zero zero = refl
@@ -69,8 +69,8 @@ module _ (ms : List Modulus) where
   pub moved-zero : (d : List ℕ) (p : ℕ) → shortenedMoved ms 0 d p ≡ halves.moved (slots ms) d p
   moved-zero d p = new-zero (halves.moved (slots ms) d (oldPlace 0 p)) ∙ ap (halves.moved (slots ms) d) (old-zero p)
 
-  pub whole : WholeOf ms
-  whole =
+  whole-of : WholeOf ms
+  whole-of =
       record {
         codeword = λ w. ((λ h. h), λ h. h);
         syndrome = syndrome-zero;
@@ -103,3 +103,6 @@ module _ (ms : List Modulus) where
       weighs = subst (λ (n : ℕ). weight (onesAt n i j k) ≡ 3) (sym (new-zero (lengthOf ms))) (x .weighs);
     },
   )
+
+pub whole : Whole
+whole ms = whole-of ms

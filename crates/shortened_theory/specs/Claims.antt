@@ -1,12 +1,13 @@
--- What the theorems on shortened codes say, for any list of moduli and any s that ends between two slots of its message; proofs/ shows each of
--- them. Assumes nothing.
+-- What the theorems on shortened codes say: `allowed-s : AllowedClaim` (proofs/Between), `shortened-code : ShortenedCodes` (proofs/Theorem) and
+-- `whole : Whole` (proofs/Whole). Assumes nothing.
 use mathlib.Core.Path.{_≡_}
 use mathlib.Core.Logic.{_≢_, _↔_}
+use mathlib.Core.Bool.{true}
 use mathlib.Core.List.{List, [], _++_}
 use Prim.Native.Nat.{ℕ, _-_, _<_, _≤_}
 use lib.ListN.{length, take, drop}
 use Rattle.group_theory.specs.Group.{Modulus, sum, negative}
-use Rattle.layout_theory.specs.Parameters.{placesOf, messageOf, moduliFor}
+use Rattle.layout_theory.specs.Parameters.{Admitted, placesOf, messageOf, moduliFor}
 use Rattle.layout_theory.specs.Layout.{Slot, message, slots, places, elementAt}
 use Rattle.words_theory.specs.Words.{Word, zeroWord, flip, distance, weight}
 use Rattle.words_theory.specs.Words as words
@@ -16,16 +17,23 @@ use Rattle.words_theory.specs.Halves as halves
 use Rattle.words_theory.specs.Coding.{onesAt}
 use Rattle.words_theory.specs.Coding as coding
 use Rattle.words_theory.specs.Claims.{messageLengthOf}
+use Rattle.shortened_theory.specs.Allowed.{Allowed, allows}
 use Rattle.shortened_theory.specs.Code.{fill, oldPlace, LeftOut, ShortenedCodeword, shortenedEncode, shortenedCombine, shortenedInverse, correctedOldPlace, shortenedCorrected, shortenedCorrectedPlace, thirdOldPlace, shortenedThird, shortenedMoved, shortenedSyndrome, shortenedElementAt, shortenedWidth, shortenedOtherHalf}
 
 -- s is 0 or ends where a slot of the message ends, so not within a pair, and at least one slot is kept. For admitted t and r these are the
--- allowed s (`allowed-between`)
+-- allowed s (`allowed-s`)
 pub record EndsBetween (ms : List Modulus) (s : ℕ) : Type 0 where
   pub gone : List Slot
   pub kept : List Slot
   pub whole : message ms ≡ gone ++ kept
   pub ends : length (places ms gone) ≡ s
   pub stays : kept ≢ []
+
+-- which s are allowed: the test says so, and these are the s that end between two slots of the message; 0 is one of them
+pub record AllowedClaim : Type 0 where
+  pub test : (t r s : ℕ) → (allows t r s ≡ true) ↔ Allowed t r s
+  pub between : (t r s : ℕ) → Admitted t r → Allowed t r s ↔ EndsBetween (moduliFor t r) s
+  pub zero : (t r : ℕ) → Admitted t r → Allowed t r 0
 
 -- with s = 0 the shortened code is the code
 pub record WholeOf (ms : List Modulus) : Type 0 where
@@ -119,3 +127,9 @@ pub record ShortenedOf (t r s : ℕ) : Type 0 where
       → Word (messageOf t - s) (take (messageOf t - s) c) × (c ≡ shortenedEncode (moduliFor t r) s (take (messageOf t - s) c))
   pub carries : (d w : List ℕ) → ShortenedCodeword (moduliFor t r) s d → Word (placesOf t - s) w → ShortenedCarriedBy (moduliFor t r) s d w
   pub thirds : (i j : ℕ) → 0 < i → i ≤ placesOf t - s → 0 < j → j ≤ placesOf t - s → i ≢ j → ShortenedThirdOf (moduliFor t r) s i j
+
+abbrev pub Whole : Type 0
+Whole = (ms : List Modulus) → WholeOf ms
+
+abbrev pub ShortenedCodes : Type 0
+ShortenedCodes = (t r s : ℕ) → Admitted t r → Allowed t r s → ShortenedOf t r s

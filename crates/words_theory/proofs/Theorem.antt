@@ -16,7 +16,7 @@ use Rattle.words_theory.specs.Words.{Word, zeroWord, combine, inverse}
 use Rattle.words_theory.specs.Syndrome.{syndrome, lengthOf}
 use Rattle.words_theory.specs.Halves.{otherAt, otherHalf}
 use Rattle.words_theory.specs.Coding.{encode}
-use Rattle.words_theory.specs.Claims.{messageLengthOf, GroupOf, HalvesOf, CodeOf}
+use Rattle.words_theory.specs.Claims.{messageLengthOf, GroupOf, HalvesOf, CodeOf, Codes}
 use Rattle.words_theory.proofs.OtherHalf.{other-other, other-lt, other-negative}
 use Rattle.words_theory.proofs.Reading.{word-reads, reads-word}
 use Rattle.words_theory.proofs.Combining.{combine-reads, inverse-reads, combine-comm, combine-assoc, combine-zero, combine-inverse, syndrome-combine, syndrome-inverse}
@@ -100,8 +100,8 @@ module _ (t r : ℕ) (ok : Admitted t r) where
   pub word-code : {w : List ℕ} → Word (placesOf t) w → Word (lengthOf (moduliFor t r)) w
   word-code {w} h = subst (λ (n : ℕ). Word n w) (sym length-code) h
 
-  pub code : CodeOf t r
-  code =
+  gathered : CodeOf t r
+  gathered =
       let ms = moduliFor t r in
       let n = length-code in
       let m = length-message-code in
@@ -114,3 +114,6 @@ module _ (t r : ℕ) (ok : Admitted t r) where
         encoded = λ c k. subst (λ (l : ℕ). Word l (take l c) × (c ≡ encode ms (take l c))) m (encoded ms c k);
         thirds = λ i j a b c d e. thirds ms i j a (rw n b) c (rw n d) e;
       }
+
+pub code : Codes
+code t r ok = gathered t r ok

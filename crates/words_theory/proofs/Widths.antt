@@ -25,6 +25,7 @@ use Rattle.words_theory.specs.Syndrome.{lengthOf}
 use Rattle.words_theory.specs.Halves.{widthAt, width, isBinary, isPaired, otherAt, otherHalf}
 use Rattle.words_theory.specs.Calls.{widthFor}
 use Rattle.words_theory.proofs.OtherHalf.{swapped, other-one, other-two, other-three, other-four}
+use Rattle.words_theory.specs.Claims.{BinaryParts}
 use Rattle.words_theory.proofs.Theorem.{length-code}
 use Rattle.words_theory.proofs.Shapes.{place-there, place-beyond, located}
 
@@ -139,19 +140,17 @@ module _ (t r : ℕ) (h : Admitted t r) where
       let n = below-power t in
       rw (← k .a, ← k .b, ← k .binary, ← k .message) (located s (t, r, refl) (omega (arith, k .places)))
 
-  pub binary-parts : (p : ℕ) → 0 < p → p ≤ placesOf t
-      → (isBinary (slots (moduliFor t r)) p ≡ true)
-      ↔ ((p ≤ placesOf r - binaryOf t r) ⊎ ((messageOf t < p) × (p ≤ messageOf t + binaryOf t r)))
-  binary-parts zero l m = absurd (omega arith)
-  binary-parts (suc i) l m =
-      let n = length-code t r h in
-      let w = width-alone (moduliFor t r) (suc i) l (omega arith) in
-      let q = below-power t in
-      let b = alone-parts (binaryOf t r) (quaternaryOf t r) (placesOf r - binaryOf t r) (messageOf t) located-for i (sum-for i m) in
-      ((λ e. b .0 (omega (arith, w .0 e))), λ x. w .1 (ap suc (b .1 x)))
-    where
-      sum-for : (i : ℕ) → suc i ≤ placesOf t → i < messageOf t + binaryOf t r + 2 * quaternaryOf t r
-      sum-for i m = let q = below-power t in omega (arith, h .within, h .twice)
+pub binary-parts : BinaryParts
+binary-parts t r h zero l m = absurd (omega arith)
+binary-parts t r h (suc i) l m =
+    let n = length-code t r h in
+    let w = width-alone (moduliFor t r) (suc i) l (omega arith) in
+    let q = below-power t in
+    let b = alone-parts (binaryOf t r) (quaternaryOf t r) (placesOf r - binaryOf t r) (messageOf t) (located-for t r h) i (sum-for i m) in
+    ((λ e. b .0 (omega (arith, w .0 e))), λ x. w .1 (ap suc (b .1 x)))
+  where
+    sum-for : (i : ℕ) → suc i ≤ placesOf t → i < messageOf t + binaryOf t r + 2 * quaternaryOf t r
+    sum-for i m = let q = below-power t in omega (arith, h .within, h .twice)
 
 -- ---- the width as the code tells it
 module _ (t r : ℕ) (s : Shape) (e : s ≡ shapeFor t r) where

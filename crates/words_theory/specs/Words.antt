@@ -4,7 +4,7 @@ use mathlib.Core.Bool.{not}
 use mathlib.Core.List.{List, [], _∷_}
 use Prim.Native.Nat.{ℕ, zero, suc, _+_, _-_, _%_, _≤_}
 use lib.Dec.{eqb}
-use lib.ListN.{length, replicate}
+use lib.ListN.{length, getD, replicate}
 use Rattle.group_theory.specs.Group.{hd, tl}
 use Rattle.layout_theory.specs.Choice.{oneIf}
 use Rattle.layout_theory.specs.Layout.{Slot, single, pair}
@@ -18,6 +18,11 @@ Bits (b ∷ w) = (b ≤ 1) × Bits w
 pub record Word (n : ℕ) (w : List ℕ) : Type 0 where
   pub places : length w ≡ n
   pub bits : Bits w
+
+-- the byte of a place; "Places count from 1"
+abbrev pub byteAt : List ℕ → ℕ → ℕ
+byteAt w zero = 0
+byteAt w (suc i) = getD w i 0
 
 -- the zero word
 abbrev pub zeroWord : ℕ → List ℕ

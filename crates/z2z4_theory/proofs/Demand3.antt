@@ -11,6 +11,8 @@ use Rattle.shortened_theory.proofs.Whole.{new-zero, three-zero}
 use Rattle.coder_theory.specs.State.{fresh, placesIn}
 use Rattle.coder_theory.specs.Calls.{encodeAnswer, encodeOutput, combineAnswer, combineOutput, correctAnswer, correctOutput, thirdAnswer}
 use Rattle.coder_theory.specs.Demand3.{OwnRecord, NotFull, AtWord}
+use Rattle.coder_theory.specs.declared.Answer.{Answer}
+use Rattle.coder_theory.proofs.States.{zero-usable}
 use Rattle.coder_theory.proofs.Refusals.{fresh-fit}
 use Rattle.coder_theory.proofs.Triples.{thirds}
 use Rattle.coder_theory.proofs.Demand3.{demand3}
@@ -96,10 +98,13 @@ demand3-for-c t r ok w h = for-c t r ok w h
 pub thirds-for-c : ThirdsForC
 unfolding placesIn
 thirds-for-c t r ok i j a b c d n =
-    let y = thirds (fresh t r 0) i j (fresh-fit t r 0 ok) refl a (omega arith) c (omega arith) n in
+    let y = thirds (fresh t r 0) i j (zero-usable (fresh t r 0) (fresh-fit t r 0 ok) refl) a (omega arith) c (omega arith) n in
+    let p = thirdAnswer (fresh t r 0) i j .place in
     record {
-      k = thirdAnswer (fresh t r 0) i j .place;
-      answers = with-fresh t r ok (third-as-opened t r i j .answers) ∙ ap (λ (n : ℕ). signed n (thirdAnswer (fresh t r 0) i j .place)) (y .accepted);
-      makes = three-zero (moduliFor t r) i j (thirdAnswer (fresh t r 0) i j .place) .0 (y .makes);
-      only = λ k z. y .only k (three-zero (moduliFor t r) i j k .1 z);
+      k = p;
+      answers =
+          with-fresh t r ok (third-as-opened t r i j .answers)
+          ∙ ap (λ (n : ℕ). signed n p) (ap (λ (x : Answer). x .refusal) (y .some p .1 (y .one refl)));
+      makes = three-zero (moduliFor t r) i j p .0 (y .one refl);
+      only = λ k z. sym (ap (λ (x : Answer). x .place) (y .some k .1 (three-zero (moduliFor t r) i j k .1 z)));
     }

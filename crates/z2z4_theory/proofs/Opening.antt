@@ -16,17 +16,16 @@ use Rattle.shortened_theory.proofs.Between.{allowed-allows, zero-allowed}
 use Rattle.coder_theory.specs.State.{Usable, fresh, placesIn, messageIn, encodedIn, correctedIn, correctedPlaceIn, correctedOldPlaceIn, combineIn, thirdIn, thirdOldPlaceIn}
 use Rattle.coder_theory.specs.Reasons.{Reason, firstReason, notAdmitted, leftOut, full}
 use Rattle.coder_theory.specs.Calls.{ifAccepted, inForce, opened, stateReasons, writeInput, combineInput, placesInput, correctReasons, writeReasons, encodeAnswer, encodeOutput, correctAnswer, correctOutput, combineAnswer, combineOutput, thirdAnswer, placesReasons, thirdReasons}
-use Rattle.coder_theory.specs.Claims.{NoneApplies}
 use Rattle.coder_theory.specs.declared.Record.{Record}
 use Rattle.coder_theory.specs.declared.Opened.{Opened}
-use Rattle.coder_theory.proofs.Firsts.{first-yes, first-no, first-end, first-before, first-past, first-last, accepted-none}
+use Rattle.coder_theory.proofs.Firsts.{NoneApplies, first-yes, first-no, first-end, first-before, first-past, first-last, accepted-none}
 use Rattle.coder_theory.proofs.States.{usable-true, state-past}
 use Rattle.coder_theory.proofs.Answers.{opened-yes, opened-no}
 use Rattle.coder_theory.proofs.Refusals.{opens, opened-fresh, opened-usable}
 use Rattle.coder_theory.proofs.Bounds.{numbers, open-refusal}
 use Rattle.z2z4_theory.specs.Calls.{signed, codeFor, callReasons, encodeAnswerForC, encodeOutputForC, correctAnswerForC, correctOutputForC}
 use Rattle.z2z4_theory.specs.Calls.{combineAnswerForC, combineOutputForC, thirdAnswerForC}
-use Rattle.z2z4_theory.specs.Claims.{AsOpened, encodeTold, correctTold, combineTold, thirdTold, EncodesAsOpened, CorrectsAsOpened, CombinesAsOpened, ThirdAsOpened, SameCalls}
+use Rattle.z2z4_theory.specs.Claims.{AsOpened, encodeTold, correctTold, combineTold, thirdTold, EncodesAsOpened, CorrectsAsOpened, CombinesAsOpened, ThirdAsOpened, AsOpenedCalls, ZeroIsT}
 
 -- ---- what a call makes of an opening that answered o: z, where v is what comes of opening
 module _ {A : Type 0} {t r : ℕ} {v z : A} {x : ℕ → A} {f : Record → A} {o : Opened} (a : AsOpened t r v x f) (e : o ≡ opened t r 0) where
@@ -171,8 +170,16 @@ third-as-opened t r i j =
           ∙ told (firstReason (thirdReasons rec i j)) (thirdIn rec i j));
     }
 
+pub as-opened : AsOpenedCalls
+as-opened t r = record {
+  encode = encodes-as-opened t r;
+  correct = corrects-as-opened t r;
+  combine = combines-as-opened t r;
+  third = third-as-opened t r;
+}
+
 -- ---- r = 0
-pub zero-is-t : (t : ℕ) → SameCalls t 0 t
+pub zero-is-t : ZeroIsT
 unfolding encodeAnswerForC encodeOutputForC correctAnswerForC correctOutputForC combineAnswerForC combineOutputForC thirdAnswerForC
 zero-is-t zero = record {
   encodes = λ m out. (refl, refl);

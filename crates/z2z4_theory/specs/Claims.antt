@@ -1,10 +1,10 @@
--- The words in which the theorems on the calls for C are stated: they are the coder's calls with a record just opened, and refuse for
--- their reasons only. Assumes nothing.
+-- What is said of the calls for C beside demands 1 and 3: they are the coder's calls with a record just opened, and 0 means r = t.
+-- Assumes nothing.
 use mathlib.Core.Path.{_≡_}
 use mathlib.Core.Logic.{_≢_}
 use mathlib.Core.List.{List}
-use Prim.Native.Nat.{ℕ, suc}
-use lib.IntN.{ℤ, pos, negsuc}
+use Prim.Native.Nat.{ℕ}
+use lib.IntN.{ℤ}
 use Rattle.coder_theory.specs.Calls.{opened, encodeAnswer, correctAnswer, combineAnswer, thirdAnswer, encodeOutput, correctOutput, combineOutput}
 use Rattle.coder_theory.specs.declared.Record.{Record}
 use Rattle.z2z4_theory.specs.Calls.{signed, encodeAnswerForC, encodeOutputForC, correctAnswerForC, correctOutputForC, combineAnswerForC, combineOutputForC, thirdAnswerForC}
@@ -43,10 +43,15 @@ pub record CombinesAsOpened (t r : ℕ) (x y out : List ℕ) : Type 0 where
 pub record ThirdAsOpened (t r i j : ℕ) : Type 0 where
   pub answers : AsOpened t r (thirdAnswerForC t r i j) (λ n. signed n 0) (thirdTold i j)
 
--- the refusal that an answer tells, 0 where the call is accepted
-abbrev pub refusalOf : ℤ → ℕ
-refusalOf (pos p) = 0
-refusalOf (negsuc n) = suc n
+-- all four; the theorem is `as-opened : AsOpenedCalls` (proofs/Opening)
+pub record AsOpenedFor (t r : ℕ) : Type 0 where
+  pub encode : (m out : List ℕ) → EncodesAsOpened t r m out
+  pub correct : (w out : List ℕ) → CorrectsAsOpened t r w out
+  pub combine : (x y out : List ℕ) → CombinesAsOpened t r x y out
+  pub third : (i j : ℕ) → ThirdAsOpened t r i j
+
+abbrev pub AsOpenedCalls : Type 0
+AsOpenedCalls = (t r : ℕ) → AsOpenedFor t r
 
 -- "r given as 0 means r = t": the calls with r are those with r′
 pub record SameCalls (t r r′ : ℕ) : Type 0 where
@@ -54,3 +59,7 @@ pub record SameCalls (t r r′ : ℕ) : Type 0 where
   pub corrects : (w out : List ℕ) → (correctAnswerForC t r w out ≡ correctAnswerForC t r′ w out) × (correctOutputForC t r w out ≡ correctOutputForC t r′ w out)
   pub combines : (x y out : List ℕ) → (combineAnswerForC t r x y out ≡ combineAnswerForC t r′ x y out) × (combineOutputForC t r x y out ≡ combineOutputForC t r′ x y out)
   pub thirds : (i j : ℕ) → thirdAnswerForC t r i j ≡ thirdAnswerForC t r′ i j
+
+-- the theorem is `zero-is-t` (proofs/Opening)
+abbrev pub ZeroIsT : Type 0
+ZeroIsT = (t : ℕ) → SameCalls t 0 t

@@ -1,0 +1,146 @@
+-- Each call on a record is refused by the numbers, in the order, for the reasons of its rows (specs/Demand1): `refused`. Assumes nothing.
+use mathlib.Core.Path.{_≡_, refl, sym, ap, _∙_}
+use mathlib.Core.Logic.{_≢_, _↔_, _⊎_, inl, inr}
+use mathlib.Core.List.{List, [], _∷_, _++_}
+use mathlib.Core.Bool.{Bool, true, false, true≢false}
+use Prim.Native.Nat.{ℕ}
+use native.Mathlib.Omega.{arith}
+use lib.ListN.{length}
+use Rattle.shortened_theory.specs.Allowed.{Allowed}
+use Rattle.coder_theory.specs.State.{Usable, placesIn, messageIn, correctedOldPlaceIn, thirdOldPlaceIn, ThirdFallsOut, ThreeIn}
+use Rattle.coder_theory.specs.Reasons.{Reason, closed, unfit, notAllowed, wrongLength, shortOutput, badByte, outside, equalPlaces, leftOut, full}
+use Rattle.coder_theory.specs.Calls.{stateReasons, layoutReasons, wordReasons, syndromeAnswer, codewordAnswer, writeReasons, encodeReasons, encodeAnswer}
+use Rattle.coder_theory.specs.Calls.{correctReasons, correctAnswer, combineReasons, combineAnswer, invertReasons, invertAnswer, thirdReasons, thirdAnswer}
+use Rattle.coder_theory.specs.Demand3Shortened.{HasNear}
+use Rattle.coder_theory.specs.Demand1.{wordPlaces, Unfit, Short, NotBits, Outside, stateRows, writeRows, IsPlace, IsWord, RefusedIn}
+use Rattle.coder_theory.specs.declared.Record.{Record}
+use Rattle.coder_theory.specs.declared.Answer.{Answer}
+use Rattle.coder_theory.proofs.Rows.{Rowed, done, row, two, by-first}
+use Rattle.coder_theory.proofs.States.{true-usable}
+use Rattle.coder_theory.proofs.Answers.{element-refusal}
+use Rattle.coder_theory.proofs.Outcomes.{inside-by}
+use Rattle.coder_theory.proofs.Refusals.{closed-applies, unfit-applies, allowed-applies, left-applies, outside-applies, length-applies, output-applies, full-applies, byte-applies, equal-applies}
+use Rattle.coder_theory.proofs.Accepts.{word-by, has, kept, three}
+use Rattle.coder_theory.proofs.Accepted.{third-accepts, third-left}
+
+-- a reason that does not apply
+off : {why : Type 0} (x : Reason) → (x .applies ≡ true) ↔ why → (why → ⊥) → x .applies ≡ false
+off x same never = go (x .applies) refl
+  where
+    go : (b : Bool) → x .applies ≡ b → x .applies ≡ false
+    go true y = absurd (never (same .0 y))
+    go false y = y
+
+-- ---- the state
+abbrev Past : Record → Type 0
+Past rec = ((Unit {0} × (rec .t ≢ 0)) × (Unfit rec → ⊥)) × ((Allowed (rec .t) (rec .r) (rec .s) → ⊥) → ⊥)
+
+module _ (rec : Record) where
+  state : {xs : List Reason} {rows : List (ℕ × Type 0)} → Rowed (Past rec) xs rows → Rowed (Unit {0}) (stateReasons rec ++ xs) (stateRows rec ++ rows)
+  state later =
+      row (closed rec) (λ z. closed-applies rec)
+      (row (unfit rec) (λ z. unfit-applies rec)
+      (row (notAllowed (rec .t) (rec .r) (rec .s)) (λ z. allowed-applies (rec .t) (rec .r) (rec .s)) later))
+
+  usable : Past rec → Usable rec
+  usable p =
+      true-usable rec (off (unfit rec) (unfit-applies rec) (p .0 .1))
+      (off (notAllowed (rec .t) (rec .r) (rec .s)) (allowed-applies (rec .t) (rec .r) (rec .s)) (p .1))
+
+  -- ---- a word that is read, and one that is read to be written
+  read-rows : (w : List ℕ) → Rowed (Unit {0}) (wordReasons rec w) (stateRows rec ++ ((2, length w ≢ wordPlaces rec) ∷ (4, NotBits w) ∷ []))
+  unfolding placesIn
+  read-rows w = state (row (wrongLength (placesIn rec) w) (λ z. length-applies (placesIn rec) w) (row (badByte w) (λ z. byte-applies w) done))
+
+  abbrev Written : ℕ → List ℕ → List ℕ → Type 0
+  Written n w out = ((Past rec × (length w ≢ n → ⊥)) × (Short rec out → ⊥)) × (NotBits w → ⊥)
+
+  write-rows : (n : ℕ) (w out : List ℕ) {xs : List Reason} {rows : List (ℕ × Type 0)} → Rowed (Written n w out) xs rows
+      → Rowed (Unit {0}) (writeReasons rec n w (length out) ++ xs) (writeRows rec n w out ++ rows)
+  unfolding placesIn
+  write-rows n w out later =
+      state
+      (row (wrongLength n w) (λ z. length-applies n w)
+      (row (shortOutput (placesIn rec) (length out)) (λ z. output-applies (placesIn rec) (length out)) (row (badByte w) (λ z. byte-applies w) later)))
+
+  -- ---- correction: the place is left out exactly where no codeword is within one place
+  module _ (w out : List ℕ) (p : Written (wordPlaces rec) w out) where
+    is-word : IsWord rec w
+    is-word = word-by (wordPlaces rec) w (off (wrongLength (wordPlaces rec) w) (length-applies (wordPlaces rec) w) (p .0 .0 .1)) (off (badByte w) (byte-applies w) (p .1))
+
+    left : (leftOut (rec .s) (correctedOldPlaceIn rec w) .applies ≡ true) ↔ (HasNear (rec .t) (rec .r) (rec .s) w → ⊥)
+    left = (
+      (λ e c. kept rec w (usable (p .0 .0 .0)) is-word c (left-applies (rec .s) (correctedOldPlaceIn rec w) .0 e)),
+      λ never. go (leftOut (rec .s) (correctedOldPlaceIn rec w) .applies) refl never,
+    )
+      where
+        go : (b : Bool) → leftOut (rec .s) (correctedOldPlaceIn rec w) .applies ≡ b → (HasNear (rec .t) (rec .r) (rec .s) w → ⊥)
+            → leftOut (rec .s) (correctedOldPlaceIn rec w) .applies ≡ true
+        go true y never = y
+        go false y never =
+            absurd (never (has rec w (usable (p .0 .0 .0)) is-word (λ x. true≢false (sym (left-applies (rec .s) (correctedOldPlaceIn rec w) .1 x) ∙ y))))
+
+  -- ---- the third place
+  module _ (i j : ℕ) (p : (Past rec × ((Outside rec i) ⊎ (Outside rec j) → ⊥)) × (i ≢ j)) where
+    inside : (q : ℕ) → (Outside rec q → ⊥) → IsPlace rec q
+    unfolding placesIn
+    inside q never = inside-by rec q (off (outside rec q) (outside-applies rec q) never)
+
+    f : Usable rec
+    f = usable (p .0 .0)
+
+    a : IsPlace rec i
+    a = inside i (λ o. p .0 .1 (inl o))
+
+    b : IsPlace rec j
+    b = inside j (λ o. p .0 .1 (inr o))
+
+    told : (ThirdFallsOut rec i j → ⊥) → thirdAnswer rec i j .refusal ≡ 0
+    unfolding placesIn
+    told q = ap (λ (x : Answer). x .refusal) (third-accepts rec i j f (a .0) (a .1) (b .0) (b .1) (p .1) q)
+
+    stopped : ThirdFallsOut rec i j → thirdAnswer rec i j .refusal ≡ 11
+    unfolding placesIn
+    stopped q = ap (λ (x : Answer). x .refusal) (third-left rec i j f (a .0) (a .1) (b .0) (b .1) (p .1) q)
+
+    third-left-out : (leftOut (rec .s) (thirdOldPlaceIn rec i j) .applies ≡ true) ↔ ((k : ℕ) → ThreeIn rec i j k → ⊥)
+    third-left-out = (
+      (λ e. three rec i j f a b (p .1) .none .0 (stopped (left-applies (rec .s) (thirdOldPlaceIn rec i j) .0 e))),
+      λ never. go (leftOut (rec .s) (thirdOldPlaceIn rec i j) .applies) refl (three rec i j f a b (p .1) .none .1 never),
+    )
+      where
+        go : (x : Bool) → leftOut (rec .s) (thirdOldPlaceIn rec i j) .applies ≡ x → thirdAnswer rec i j .refusal ≡ 11
+            → leftOut (rec .s) (thirdOldPlaceIn rec i j) .applies ≡ true
+        go true y e = y
+        go false y e =
+            let z : _≡_ {A = ℕ} 0 11 =
+            sym (told (λ x. true≢false (sym (left-applies (rec .s) (thirdOldPlaceIn rec i j) .1 x) ∙ y))) ∙ e in
+            absurd (omega arith)
+
+-- ---- the calls
+pub refused : (rec : Record) → RefusedIn rec
+unfolding placesIn messageIn syndromeAnswer codewordAnswer encodeAnswer correctAnswer combineAnswer invertAnswer thirdAnswer
+refused rec =
+    record {
+      layout = λ p. by-first _ (layoutReasons rec p) _ refl refl (element-refusal rec p) (state rec (row (outside rec p) (λ z. outside-applies rec p) done));
+      syndrome = λ w. by-first _ (wordReasons rec w) _ refl refl refl (read-rows rec w);
+      codeword = λ w. by-first _ (wordReasons rec w) _ refl refl refl (read-rows rec w);
+      encode = λ m out. by-first _ (encodeReasons rec m (length out)) _ refl refl refl (write-rows rec (messageIn rec) m out done);
+      correct = λ w out.
+          by-first _ (correctReasons rec w (length out)) _ refl refl refl
+          (write-rows rec (wordPlaces rec) w out
+          (row (leftOut (rec .s) (correctedOldPlaceIn rec w)) (left rec w out) (row (full rec) (λ z. full-applies rec) done)));
+      combine = λ x y out.
+          by-first _ (combineReasons rec x y (length out)) _ refl refl refl
+          (state rec
+          (two (wrongLength (placesIn rec) x) (wrongLength (placesIn rec) y) refl (λ z. length-applies (placesIn rec) x) (λ z. length-applies (placesIn rec) y)
+          (row (shortOutput (placesIn rec) (length out)) (λ z. output-applies (placesIn rec) (length out))
+          (two (badByte x) (badByte y) refl (λ z. byte-applies x) (λ z. byte-applies y) done))));
+      invert = λ w out. by-first _ (invertReasons rec w (length out)) _ refl refl refl (write-rows rec (wordPlaces rec) w out done);
+      third = λ i j.
+          by-first _ (thirdReasons rec i j) _ refl refl refl
+          (state rec
+          (two (outside rec i) (outside rec j) refl (λ z. outside-applies rec i) (λ z. outside-applies rec j)
+          (row (equalPlaces i j) (λ z. equal-applies i j)
+          (row (leftOut (rec .s) (thirdOldPlaceIn rec i j)) (third-left-out rec i j) done))));
+    }

@@ -1,0 +1,22 @@
+-- The group's laws as one theorem, `group-laws`. Its statement is in specs/Claims. Assumes nothing.
+use Rattle.group_theory.specs.Claims.{Groups}
+use Rattle.group_theory.proofs.Laws.{valid-sum, valid-negative, valid-element, sum-comm, sum-assoc, zero-sum, sum-negative, times-four, times-two-zero, own-negative}
+use Rattle.group_theory.proofs.Numbers.{element-number, number-element, number-lt}
+use Rattle.group_theory.proofs.Signs.{even-own, own-even, lead-negative, lead-first}
+
+pub group-laws : Groups
+group-laws ms =
+    record {
+      numbers = λ e h. (number-lt ms e, element-number ms e h);
+      elements = λ x h. (valid-element ms x, number-element ms x h);
+      closed = λ x y. (valid-sum ms x y, valid-negative ms x);
+      commutes = sum-comm ms;
+      associates = sum-assoc ms;
+      neutral = zero-sum ms;
+      inverts = sum-negative ms;
+      fourTimes = times-four ms;
+      order = λ x h. (times-two-zero ms x h, own-negative ms x h);
+      even = λ x h. (own-even ms x h, even-own ms x h);
+      turned = lead-negative ms;
+      first = lead-first ms;
+    }

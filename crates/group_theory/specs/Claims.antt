@@ -1,0 +1,39 @@
+-- What the theorem on the group says, for every list of moduli: `group-laws : (ms : List Modulus) → GroupLaws ms` (proofs/Theorem). "The coder
+-- relies on its stated laws, never on how it adds." (document 01). Assumes nothing.
+use mathlib.Core.Path.{_≡_}
+use mathlib.Core.Logic.{_≢_, _↔_}
+use mathlib.Core.List.{List}
+use Prim.Native.Nat.{ℕ, _+_, _-_, _*_, _%_, _^_, _<_, _≤_}
+use lib.ListN.{getD}
+use Rattle.group_theory.specs.Group.{Modulus, one, four, moduli, Valid, zeros, sum, negative, times, number, element, size}
+use Rattle.group_theory.specs.Sign.{lead}
+
+-- the first odd quaternary component stands at index i: the quaternary components before it are even
+abbrev pub FirstOdd : List Modulus → List ℕ → ℕ → Type 0
+FirstOdd ms e i =
+    (getD ms i one ≡ four) × (getD e i 0 % 2 ≡ 1) × ((j : ℕ) → j < i → getD ms j one ≡ four → getD e j 0 % 2 ≡ 0)
+
+pub record GroupLaws (ms : List Modulus) : Type 0 where
+  -- "Numbers run from 0 to n.": each number below the size is that of one element
+  pub numbers : (e : List ℕ) → Valid ms e → (number ms e < size ms) × (element ms (number ms e) ≡ e)
+  pub elements : (x : ℕ) → x < size ms → Valid ms (element ms x) × (number ms (element ms x) ≡ x)
+  -- an abelian group, in which four times an element is zero
+  pub closed : (x y : List ℕ) → Valid ms (sum ms x y) × Valid ms (negative ms x)
+  pub commutes : (x y : List ℕ) → sum ms x y ≡ sum ms y x
+  pub associates : (x y z : List ℕ) → sum ms (sum ms x y) z ≡ sum ms x (sum ms y z)
+  pub neutral : (x : List ℕ) → Valid ms x → sum ms (zeros ms) x ≡ x
+  pub inverts : (x : List ℕ) → sum ms x (negative ms x) ≡ zeros ms
+  pub fourTimes : (x : List ℕ) → times ms 4 x ≡ zeros ms
+  -- the elements of order 2, and zero, are those whose quaternary components are even; of z and −z one has the sign 1 and the other 3
+  pub order : (x : List ℕ) → Valid ms x → (negative ms x ≡ x) ↔ (times ms 2 x ≡ zeros ms)
+  pub even : (x : List ℕ) → Valid ms x → (negative ms x ≡ x) ↔ (lead ms x ≡ 0)
+  pub turned : (x : List ℕ) → Valid ms x → lead ms (negative ms x) ≡ (4 - lead ms x) % 4
+  -- where the sign is not 0 it is the first odd quaternary component
+  pub first : (x : List ℕ) → Valid ms x → lead ms x ≢ 0 → (i : ℕ) × FirstOdd ms x i × (getD x i 0 ≡ lead ms x)
+
+abbrev pub Groups : Type 0
+Groups = (ms : List Modulus) → GroupLaws ms
+
+-- a binary and b quaternary components, at most twelve, have 2^(a + 2b) elements
+abbrev pub Sizes : Type 0
+Sizes = (a b : ℕ) → a + b ≤ 12 → size (moduli a b) ≡ 2 ^ (a + 2 * b)

@@ -1,0 +1,27 @@
+-- The range of t and r: the test is the inequality, and document 01's examples are computed by it. Assumes nothing.
+use mathlib.Core.Path.{_≡_, refl, sym, _∙_}
+use mathlib.Core.Bool.{false, true≢false}
+use Prim.Native.Nat.{ℕ}
+use Rattle.layout_theory.specs.Parameters.{Admitted, admits}
+use Rattle.layout_theory.specs.Claims.{AdmittedTest, Limits}
+use Rattle.layout_theory.proofs.Parameters.{admits-admitted, admitted-admits}
+
+pub admitted-test : AdmittedTest
+admitted-test t r = (admits-admitted t r, admitted-admits t r)
+
+not-admitted : (t r : ℕ) → admits t r ≡ false → Admitted t r → ⊥
+not-admitted t r e h = true≢false (sym (admitted-admits t r h) ∙ e)
+
+pub limits : Limits
+unfolding admits
+limits = record {
+  in22 = admits-admitted 2 2 refl;
+  in42 = admits-admitted 4 2 refl;
+  in105 = admits-admitted 10 5 refl;
+  in1010 = admits-admitted 10 10 refl;
+  out11 = not-admitted 1 1 refl;
+  out21 = not-admitted 2 1 refl;
+  out52 = not-admitted 5 2 refl;
+  out116 = not-admitted 11 6 refl;
+  out45 = not-admitted 4 5 refl;
+}
