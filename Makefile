@@ -13,7 +13,7 @@ MANIFEST := --offline --release --manifest-path host/rust/Cargo.toml
 # $(call need,TOOL,TARGET) ends with one clear line where the tool is missing
 need = @command -v $(1) >/dev/null || { echo "make $(2) needs $(1) on the PATH" >&2; exit 2; }
 
-.PHONY: all library example check check-c check-rust check-cases expected compare fuzz bench install uninstall clean help FORCE
+.PHONY: all library example check check-c check-rust check-cases check-sheet expected compare fuzz bench install uninstall clean help FORCE
 all: library example
 
 # `make LIBRARY=path/to/libz2z4.a ..` takes a library that is there already: nothing is proved, and rt is not needed.
@@ -40,6 +40,7 @@ help:
 	@echo "example         build target/host/example"
 	@echo "check           the C tests (check-c) and the Rust tests (check-rust)"
 	@echo "check-cases     prove and build the program cases: it and the second program have to refuse each line of host/malformed"
+	@echo "check-sheet     prove and build the program sheet: on every code and on lines good and bad it has to print what the second program does"
 	@echo "expected        write crates/larger/stdout and crates/cases/stdout by the second program"
 	@echo "compare         compare with the second program, CALLS=$(CALLS)"
 	@echo "fuzz            fuzz against the second program for SECONDS=$(SECONDS)"
@@ -103,6 +104,12 @@ check-cases: | $(OUT)
 	    printf '%s\n' "$$line" | $$program | grep -Fqx -- "$$line: line 1 is malformed" || \
 	        { echo "not malformed, says $$program: $$line" >&2; exit 1; }; \
 	done; done <host/malformed
+
+check-sheet: | $(OUT)
+	$(call need,rt,check-sheet)
+	$(call need,cargo,check-sheet)
+	rt check sheet
+	+$(CARGO) run $(MANIFEST) -p second --bin check_sheet -- target/bin/sheet
 
 # what the programs larger and cases have to print
 expected: | $(OUT)

@@ -16,6 +16,7 @@ mod layout;
 #[cfg(test)]
 mod paper;
 mod record;
+pub mod sheet;
 mod word;
 
 pub use record::Record;

@@ -7,6 +7,7 @@ mod expected;
 mod large;
 mod record;
 mod refusals;
+mod sheet;
 mod shortened;
 mod small;
 
