@@ -1,31 +1,36 @@
--- Worked examples: numbers, lines that are read and lines that are malformed, and the document's sheet. Assumes nothing.
-use mathlib.Core.Path.{_≡_, refl}
-use mathlib.Core.List.{List, [], _∷_, _++_, map}
-use Prim.Native.Nat.{ℕ}
-use Rattle.coder_theory.specs.Calls.{elementAnswer, wordLength, messageLength}
-use Rattle.coder_theory.specs.declared.Record.{Record}
-use lib.ListN.{replicate}
+-- Worked examples: lines that are read and lines that are malformed; and document 01's sheet for `3 2`, `document-sheet`, whose statement is in
+-- specs/Claims. Assumes nothing.
+use mathlib.Core.Path.{_≡_, refl, sym, ap, _∙_}
+use mathlib.Core.List.{List, [], _∷_, flatMap, map}
+use Prim.Native.Nat.{ℕ, suc, _≤_}
+use native.Mathlib.Omega.{arith}
+use lib.ListN.{getD, replicate, List·getD-map}
+use Rattle.group_theory.specs.Group.{zeros, number}
+use Rattle.group_theory.proofs.Numbers.{number-zeros}
+use Rattle.layout_theory.specs.Parameters.{Admitted, placesOf, moduliFor}
+use Rattle.layout_theory.specs.Layout.{from, slots, places, elementAt}
+use Rattle.layout_theory.proofs.Printed.{numbers, printed}
+use Rattle.shortened_theory.proofs.Whole.{element-zero}
+use Rattle.coder_theory.specs.State.{fresh, placesIn, elementIn}
+use Rattle.coder_theory.specs.Calls.{elementAnswer}
+use Rattle.coder_theory.specs.declared.ElementAnswer.{ElementAnswer}
+use Rattle.coder_theory.proofs.States.{zero-usable}
+use Rattle.coder_theory.proofs.Refusals.{fresh-fit, tells}
 use Rattle.listing_theory.specs.Decimal.{digitsWithin, decimal, isDigit, valueFrom}
 use Rattle.listing_theory.specs.Form.{leadingDigits, afterDigits, oneToFour, isEnd, readSecond, readRest, readLine}
-use Rattle.listing_theory.specs.Sheet.{codeWord, fieldText, headingText, placeLine, placeLines, listingText}
+use Rattle.listing_theory.specs.Claims.{DocumentSheet}
 use Rattle.listing_theory.specs.declared.Line.the-variants.{Read, Malformed}
-
-zero-printed : decimal 0 ≡ 48 ∷ []
-unfolding decimal digitsWithin
-zero-printed = refl
-
-largest-printed : decimal 4294967295 ≡ 52 ∷ 50 ∷ 57 ∷ 52 ∷ 57 ∷ 54 ∷ 55 ∷ 50 ∷ 57 ∷ 53 ∷ []
-unfolding decimal digitsWithin
-largest-printed = refl
+use Rattle.listing_theory.proofs.Forms.{spells}
+use Rattle.listing_theory.proofs.Sheets.{sheet-of}
 
 -- "3 2", and the same with leading zeros
 plain : readLine (51 ∷ 32 ∷ 50 ∷ 10 ∷ []) ≡ Read 3 2
 unfolding readLine readRest readSecond leadingDigits afterDigits oneToFour isEnd isDigit valueFrom
 plain = refl
 
-zeros : readLine (48 ∷ 48 ∷ 48 ∷ 51 ∷ 32 ∷ 48 ∷ 48 ∷ 48 ∷ 50 ∷ 10 ∷ []) ≡ Read 3 2
+with-zeros : readLine (48 ∷ 48 ∷ 48 ∷ 51 ∷ 32 ∷ 48 ∷ 48 ∷ 48 ∷ 50 ∷ 10 ∷ []) ≡ Read 3 2
 unfolding readLine readRest readSecond leadingDigits afterDigits oneToFour isEnd isDigit valueFrom
-zeros = refl
+with-zeros = refl
 
 -- empty; no newline; two spaces; a space first; a carriage return; five digits; a sign; a second newline
 malformed : List (List ℕ)
@@ -44,42 +49,35 @@ all-refused : map readLine malformed ≡ replicate 8 Malformed
 unfolding malformed readLine readRest readSecond leadingDigits afterDigits oneToFour isEnd isDigit valueFrom
 all-refused = refl
 
--- the document's sheet for `3 2`, line by line
-sheet32 : List ℕ
-sheet32 =
-    99 ∷ 111 ∷ 100 ∷ 101 ∷ 32 ∷ 51 ∷ 32 ∷ 50 ∷ 32 ∷ 55 ∷ 32 ∷ 52 ∷ 10
-    ∷ 49 ∷ 32 ∷ 52 ∷ 10
-    ∷ 50 ∷ 32 ∷ 53 ∷ 10
-    ∷ 51 ∷ 32 ∷ 55 ∷ 10
-    ∷ 52 ∷ 32 ∷ 51 ∷ 10
-    ∷ 53 ∷ 32 ∷ 49 ∷ 10
-    ∷ 54 ∷ 32 ∷ 54 ∷ 10
-    ∷ 55 ∷ 32 ∷ 50 ∷ 10 ∷ []
+-- ---- the document's sheet
+-- what the call tells of a place is its number in the layout, and document 01 prints those numbers for (3,2) (`printed`)
+told : (t r i : ℕ) → Admitted t r → suc i ≤ placesOf t
+    → elementAnswer (fresh t r 0) (suc i) .element ≡ getD (numbers t r) i 0
+unfolding placesIn elementIn elementAt numbers
+told t r i ok h =
+    let ms = moduliFor t r in
+    ap (λ (x : ElementAnswer). x .element)
+    (tells (fresh t r 0) (suc i) (zero-usable (fresh t r 0) (fresh-fit t r 0 ok) refl) (omega arith) (omega arith))
+    ∙ ap (number ms) (element-zero ms (suc i))
+    ∙ sym (List·getD-map (number ms) (places ms (slots ms)) i (zeros ms))
+    ∙ ap (getD (numbers t r) i) (number-zeros ms)
 
-abbrev line : ℕ → ℕ → List ℕ
-line p z = fieldText p 32 ++ fieldText z 10
+admitted : Admitted 3 2
+admitted = record { least = omega arith; most = omega arith; binary = omega arith; within = omega arith; twice = omega arith }
 
-printed :
-    (codeWord ++ fieldText 3 32 ++ fieldText 2 32 ++ fieldText 7 32 ++ fieldText 4 10)
-    ++ (line 1 4 ++ (line 2 5 ++ (line 3 7 ++ (line 4 3 ++ (line 5 1 ++ (line 6 6 ++ (line 7 2 ++ []))))))) ≡ sheet32
-unfolding sheet32 fieldText decimal digitsWithin
-printed = refl
+told32 : (i : ℕ) → suc i ≤ 7 → elementAnswer (fresh 3 2 0) (suc i) .element ≡ getD (4 ∷ 5 ∷ 7 ∷ 3 ∷ 1 ∷ 6 ∷ 2 ∷ []) i 0
+told32 i h = told 3 2 i admitted h ∙ rw (printed .1)
 
--- it is the listing of a code of which the coder says the document's numbers
-module _
-    (rec : Record)
-    (a : elementAnswer rec 1 .element ≡ 4)
-    (b : elementAnswer rec 2 .element ≡ 5)
-    (c : elementAnswer rec 3 .element ≡ 7)
-    (d : elementAnswer rec 4 .element ≡ 3)
-    (e : elementAnswer rec 5 .element ≡ 1)
-    (f : elementAnswer rec 6 .element ≡ 6)
-    (g : elementAnswer rec 7 .element ≡ 2)
-  where
-    lines : placeLines rec 1 7 ≡ line 1 4 ++ (line 2 5 ++ (line 3 7 ++ (line 4 3 ++ (line 5 1 ++ (line 6 6 ++ (line 7 2 ++ []))))))
-    unfolding placeLines placeLine
-    lines = rw (a, b, c, d, e, f, g)
-
-    document : rec .t ≡ 3 → rec .r ≡ 2 → wordLength rec ≡ 7 → messageLength rec ≡ 4 → listingText rec ≡ sheet32
-    unfolding listingText headingText
-    document t r n m = rw (n, m, lines, t, r) printed
+pub document-sheet : DocumentSheet
+unfolding flatMap from decimal digitsWithin
+document-sheet =
+    sheet-of _ .listed 3 2 (spells 3 2 _ plain) admitted
+    ∙ rw (
+      told32 0 (omega arith),
+      told32 1 (omega arith),
+      told32 2 (omega arith),
+      told32 3 (omega arith),
+      told32 4 (omega arith),
+      told32 5 (omega arith),
+      told32 6 (omega arith),
+    )

@@ -1,15 +1,23 @@
--- How long the parts of a sheet can be, which keeps a position from wrapping, and the lines of the places one by one.
+-- How long a sheet and its parts can be, which keeps a position from wrapping, and the lines of the places one by one.
 -- Assumes nothing.
-use mathlib.Core.Path.{_≡_, ap}
+use mathlib.Core.Path.{_≡_, refl, ap}
+use mathlib.Core.Bool.{Bool, true, false}
 use mathlib.Core.List.{List, _++_, append-nil, append-assoc}
 use Prim.Native.Nat.{ℕ, zero, suc, _+_, _*_, _≤_}
 use native.Mathlib.Numerals.{add-one}
 use native.Mathlib.Omega.{arith}
+use lib.Dec.{eqb}
 use lib.ListN.{length, length-append}
-use Rattle.coder_theory.specs.Calls.{elementAnswer, wordLength, messageLength}
+use Rattle.coder_theory.specs.Calls.{opened, elementAnswer, wordLength, messageLength}
 use Rattle.coder_theory.specs.declared.Record.{Record}
+use Rattle.coder_theory.specs.declared.Opened.{Opened}
+use Rattle.coder_theory.proofs.Bounds.{word-length-bound}
+use Rattle.listing_theory.specs.Form.{readLine}
 use Rattle.listing_theory.specs.Puts.{Puts}
-use Rattle.listing_theory.specs.Sheet.{fieldText, headingText, placeLine, placeLines}
+use Rattle.listing_theory.specs.Sheet.{fieldText, refusedLine, headingText, placeLine, placeLines, listingText, answerText, lineText, sheetText}
+use Rattle.listing_theory.specs.Claims.{bufferLength}
+use Rattle.listing_theory.specs.declared.Line.{Line}
+use Rattle.listing_theory.specs.declared.Line.the-variants.{Read, Malformed}
 use Rattle.listing_theory.proofs.Decimals.{decimal-length}
 
 field-length : (x end : ℕ) → length (fieldText x end) ≤ 11
@@ -51,3 +59,27 @@ heading-length rec =
 -- a heading ends early enough for the lines of a word's places
 pub puts-heading : {o o' : List ℕ} {n : ℕ} (rec : Record) → Puts o 0 (headingText rec) o' n → n ≤ 49
 puts-heading rec p = omega (arith, p .next, heading-length rec)
+
+listing-length : (rec : Record) → length (listingText rec) ≤ bufferLength
+unfolding listingText
+listing-length rec =
+    simp length-append (omega (arith, heading-length rec, lines-length rec 1 (wordLength rec), word-length-bound rec))
+
+refused-length : (n : ℕ) → length (refusedLine n) ≤ bufferLength
+unfolding refusedLine
+refused-length n = omega (arith, field-length n 10)
+
+answer-length : (o : Opened) (b : Bool) → eqb (o .refusal) 0 ≡ b → length (answerText o) ≤ bufferLength
+unfolding answerText
+answer-length o true e = rw e (listing-length (o .«record»))
+answer-length o false e = rw e (refused-length (o .refusal))
+
+line-fits : (l : Line) → length (lineText l) ≤ bufferLength
+unfolding lineText
+line-fits Malformed = refused-length 7
+line-fits (Read t r) = answer-length (opened t r 0) _ refl
+
+-- a sheet fits into the program's buffer, whatever the input is
+pub sheet-fits : (input : List ℕ) → length (sheetText input) ≤ bufferLength
+unfolding sheetText
+sheet-fits input = line-fits (readLine input)

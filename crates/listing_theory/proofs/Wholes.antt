@@ -1,17 +1,44 @@
--- The sheet of admitted t and r is that of the whole code, s = 0: `sheet-whole`. Assumes nothing.
-use mathlib.Core.Path.{_≡_, refl, ap, _∙_}
-use Prim.Native.Nat.{ℕ}
+-- The texts of specs/Sheet are those that specs/Claims writes out: the lines of the two refusals, and the sheet of admitted t and r. Assumes nothing.
+use mathlib.Core.Path.{_≡_, refl, _∙_}
+use mathlib.Core.List.{List, [], _∷_, _++_, append-assoc, flatMap}
+use Prim.Native.Nat.{ℕ, zero, suc}
+use native.Mathlib.Numerals.{add-one}
 use native.Mathlib.Omega.{arith}
 use Rattle.layout_theory.specs.Parameters.{Admitted, placesOf, messageOf}
+use Rattle.layout_theory.specs.Layout.{from}
 use Rattle.coder_theory.specs.State.{fresh}
-use Rattle.coder_theory.specs.Calls.{inForce, wordLength, messageLength}
+use Rattle.coder_theory.specs.Calls.{wordLength, messageLength}
 use Rattle.coder_theory.specs.Claims.{Shortens}
 use Rattle.coder_theory.proofs.States.{zero-usable}
-use Rattle.coder_theory.proofs.Refusals.{fresh-fit, opens-zero}
+use Rattle.coder_theory.proofs.Refusals.{fresh-fit}
 use Rattle.coder_theory.proofs.Shortens.{shortens}
-use Rattle.listing_theory.specs.Sheet.{headingText, listingText, answerText, lineText}
-use Rattle.listing_theory.specs.Claims.{wholeSheet}
-use Rattle.listing_theory.specs.declared.Line.the-variants.{Read}
+use Rattle.listing_theory.specs.Decimal.{digitsWithin, decimal}
+use Rattle.listing_theory.specs.Sheet.{fieldText, refusedLine, headingText, placeLine, placeLines, listingText}
+use Rattle.listing_theory.specs.Claims.{refused7, refused1, lineOf, wholeSheet}
+
+pub line-seven : refusedLine 7 ≡ refused7
+unfolding refusedLine fieldText decimal digitsWithin
+line-seven = refl
+
+pub line-one : refusedLine 1 ≡ refused1
+unfolding refusedLine fieldText decimal digitsWithin
+line-one = refl
+
+module _ (t r : ℕ) where
+  place-written : (p : ℕ) → placeLine (fresh t r 0) p ≡ lineOf t r p
+  unfolding placeLine fieldText
+  place-written p = simp append-assoc
+
+  places-written : (p k : ℕ) → placeLines (fresh t r 0) p k ≡ flatMap (lineOf t r) (from p k)
+  unfolding placeLines flatMap from
+  places-written p zero = refl
+  places-written p (suc k) = rw (place-written p, add-one p, places-written (suc p) k)
+
+-- spaces s that follow the texts, and spaces that stand before them
+spaced :
+    (s w a b c d n l : List ℕ)
+    → (w ++ s) ++ (a ++ s) ++ (b ++ s) ++ (c ++ s) ++ (d ++ n) ++ l ≡ w ++ (s ++ a) ++ (s ++ b) ++ (s ++ c) ++ (s ++ d) ++ n ++ l
+spaced s w a b c d n l = simp append-assoc
 
 module _ (t r : ℕ) (ok : Admitted t r) where
   own : Shortens (fresh t r 0) (fresh t r 0)
@@ -25,10 +52,8 @@ module _ (t r : ℕ) (ok : Admitted t r) where
   message : messageLength (fresh t r 0) ≡ messageOf t
   message = own .message ∙ omega arith
 
-  listed : listingText (fresh t r 0) ≡ wholeSheet t r
-  unfolding listingText headingText
-  listed = rw (places, message)
-
-pub sheet-whole : (t r : ℕ) → Admitted t (inForce t r) → lineText (Read t r) ≡ wholeSheet t (inForce t r)
-unfolding lineText answerText
-sheet-whole t r ok = ap answerText (opens-zero t r ok) ∙ listed t (inForce t r) ok
+  pub listing-written : listingText (fresh t r 0) ≡ wholeSheet t r
+  unfolding listingText headingText fieldText
+  listing-written =
+      rw (places, message, places-written t r 1 (placesOf t))
+      (spaced (32 ∷ []) (99 ∷ 111 ∷ 100 ∷ 101 ∷ []) (decimal t) (decimal r) (decimal (placesOf t)) (decimal (messageOf t)) (10 ∷ []) _)

@@ -1,11 +1,74 @@
--- What the theorem on the whole sheet says: "C calls and sheet use s = 0" (request C-17). Assumes nothing.
-use mathlib.Core.List.{List, _++_}
-use Prim.Native.Nat.{ℕ}
-use Rattle.layout_theory.specs.Parameters.{placesOf, messageOf}
+-- What the theorems on the sheet say, of its bytes. Of specs/Sheet and specs/Form only `sheetText` is named: the texts are written out here a
+-- second time, so that a change of both the code and its definitions is still refused. 32 is a space, 10 a newline, 48 to 57 are the digits
+-- 0 to 9. Assumes nothing.
+use mathlib.Core.Path.{_≡_}
+use mathlib.Core.Logic.{_↔_}
+use mathlib.Core.List.{List, [], _∷_, _++_, flatMap}
+use Prim.Native.Nat.{ℕ, _^_, _<_, _≤_}
+use lib.ListN.{length}
+use Rattle.layout_theory.specs.Parameters.{Admitted, placesOf, messageOf}
+use Rattle.layout_theory.specs.Layout.{from}
 use Rattle.coder_theory.specs.State.{fresh}
-use Rattle.listing_theory.specs.Sheet.{codeWord, fieldText, placeLines}
+use Rattle.coder_theory.specs.Calls.{inForce, elementAnswer}
+use Rattle.listing_theory.specs.Decimal.{decimal, value}
+use Rattle.listing_theory.specs.Spelling.{Digits, Spells}
+use Rattle.listing_theory.specs.Sheet.{sheetText}
 
--- the sheet of the code with t and r, r in force: n and n − t in its heading, and a line for each of the n places
+-- "A refusal prints one line: `refused`, one space, the number.": with the number 7, and with 1
+abbrev pub refused7 : List ℕ
+refused7 = 114 ∷ 101 ∷ 102 ∷ 117 ∷ 115 ∷ 101 ∷ 100 ∷ 32 ∷ 55 ∷ 10 ∷ []
+
+abbrev pub refused1 : List ℕ
+refused1 = 114 ∷ 101 ∷ 102 ∷ 117 ∷ 115 ∷ 101 ∷ 100 ∷ 32 ∷ 49 ∷ 10 ∷ []
+
+-- "the place and its element number", which is the one that the layout call tells; request C-17: "C calls and sheet use s = 0"
+abbrev pub lineOf : ℕ → ℕ → ℕ → List ℕ
+lineOf t r p = decimal p ++ (32 ∷ decimal (elementAnswer (fresh t r 0) p .element)) ++ (10 ∷ [])
+
+-- "It prints `code`, t, r in force, n and message length, then for each place the place and its element number.": the places are 1 to n
 abbrev pub wholeSheet : ℕ → ℕ → List ℕ
 wholeSheet t r =
-    (codeWord ++ fieldText t 32 ++ fieldText r 32 ++ fieldText (placesOf t) 32 ++ fieldText (messageOf t) 10) ++ placeLines (fresh t r 0) 1 (placesOf t)
+    (99 ∷ 111 ∷ 100 ∷ 101 ∷ [])
+    ++ (32 ∷ decimal t)
+    ++ (32 ∷ decimal r)
+    ++ (32 ∷ decimal (placesOf t))
+    ++ (32 ∷ decimal (messageOf t))
+    ++ (10 ∷ [])
+    ++ flatMap (lineOf t r) (from 1 (placesOf t))
+
+-- the bytes of the buffer that a program writes a sheet into, `io::large_buffer`
+abbrev pub bufferLength : ℕ
+bufferLength = 65536
+
+-- the sheet of any input: refused with 7 exactly where it is not of the form, with 1 exactly where it spells parameters that are not admitted,
+-- and else the sheet of its code; no sheet is longer than the buffer
+pub record SheetOf (input : List ℕ) : Type 0 where
+  pub malformed : (sheetText input ≡ refused7) ↔ ((t r : ℕ) → Spells input t r → ⊥)
+  pub notAdmitted : (sheetText input ≡ refused1) ↔ ((t : ℕ) × (r : ℕ) × Spells input t r × (Admitted t (inForce t r) → ⊥))
+  pub listed : (t r : ℕ) → Spells input t r → Admitted t (inForce t r) → sheetText input ≡ wholeSheet t (inForce t r)
+  pub fits : length (sheetText input) ≤ bufferLength
+
+-- the decimal numeral of n: digits, one at least, whose value is n, and 0 is the first of them only where it is the only one
+pub record Numeral (n : ℕ) (ds : List ℕ) : Type 0 where
+  pub digits : Digits ds
+  pub some : 1 ≤ length ds
+  pub valued : value ds ≡ n
+  pub leading : (es : List ℕ) → ds ≡ 48 ∷ es → es ≡ []
+
+-- what is printed for a number is its numeral; ten digits hold every number of 32 bits
+abbrev pub Numerals : Type 0
+Numerals = (n : ℕ) → n < 10 ^ 10 → Numeral n (decimal n)
+
+-- "For `3 2` the whole output is": document 01's sheet, line by line
+abbrev pub DocumentSheet : Type 0
+DocumentSheet =
+    sheetText (51 ∷ 32 ∷ 50 ∷ 10 ∷ [])
+    ≡ 99 ∷ 111 ∷ 100 ∷ 101 ∷ 32 ∷ 51 ∷ 32 ∷ 50 ∷ 32 ∷ 55 ∷ 32 ∷ 52 ∷ 10
+    ∷ 49 ∷ 32 ∷ 52 ∷ 10
+    ∷ 50 ∷ 32 ∷ 53 ∷ 10
+    ∷ 51 ∷ 32 ∷ 55 ∷ 10
+    ∷ 52 ∷ 32 ∷ 51 ∷ 10
+    ∷ 53 ∷ 32 ∷ 49 ∷ 10
+    ∷ 54 ∷ 32 ∷ 54 ∷ 10
+    ∷ 55 ∷ 32 ∷ 50 ∷ 10
+    ∷ []

@@ -11,7 +11,7 @@ unfoldable pub digitsWithin : ℕ → ℕ → List ℕ
 digitsWithin zero n = []
 digitsWithin (suc most) n = pick (ltb n 10) ((48 + n) ∷ []) (digitsWithin most (n / 10) ++ ((48 + n % 10) ∷ []))
 
--- a number as it is printed: ten digits hold every u32 (`read-back`, in proofs/Decimals.antt, says that the digits are those of n)
+-- a number as it is printed: ten digits hold every u32 (`numerals`, in proofs/Decimals.antt, says that these are the digits of n)
 unfoldable pub decimal : ℕ → List ℕ
 decimal n = digitsWithin 10 n
 

@@ -2,9 +2,7 @@
 fn show(line: &[u8]) {
     let mut text = io::large_buffer();
     let n = listing::sheet(line, &mut text);
-    if n <= text.len() {
-        io::write_all(1, &text[..n]);
-    }
+    io::write_all(1, &text[..n]);
 }
 
 // A buffer too short for the text gets as much of it as fits, and the length is told all the same.
