@@ -8,7 +8,7 @@ use native.Mathlib.Numerals.{add-one}
 use native.Mathlib.Omega.{arith}
 use lib.Dec.{eqb}
 use lib.ListN.{length, length-append}
-use Rattle.coder_theory.specs.Calls.{opened, elementAnswer, wordLength, messageLength}
+use Rattle.coder_theory.specs.Calls.{opened, wordLength, messageLength}
 use Rattle.coder_theory.specs.declared.Record.{Record}
 use Rattle.coder_theory.specs.declared.Opened.{Opened}
 use Rattle.coder_theory.proofs.Bounds.{word-length-bound}
@@ -27,10 +27,12 @@ field-length x end = simp length-append (omega (arith, decimal-length x))
 pub puts-field : {o o' : List ℕ} {at n : ℕ} (x end : ℕ) → Puts o at (fieldText x end) o' n → n ≤ at + 11
 puts-field x end p = omega (arith, p .next, field-length x end)
 
+fields-length : (x y a b : ℕ) → length (fieldText x a ++ fieldText y b) ≤ 22
+fields-length x y a b = simp length-append (omega (arith, field-length x a, field-length y b))
+
 line-length : (rec : Record) (p : ℕ) → length (placeLine rec p) ≤ 22
 unfolding placeLine
-line-length rec p =
-    simp length-append (omega (arith, field-length p 32, field-length (elementAnswer rec p .element) 10))
+line-length rec p = fields-length _ _ _ _
 
 pub lines-length : (rec : Record) (p count : ℕ) → length (placeLines rec p count) ≤ 22 * count
 unfolding placeLines
@@ -72,12 +74,12 @@ refused-length n = omega (arith, field-length n 10)
 answer-length : (o : Opened) (b : Bool) → eqb (o .refusal) 0 ≡ b → length (answerText o) ≤ bufferLength
 unfolding answerText
 answer-length o true e = rw e (listing-length (o .«record»))
-answer-length o false e = rw e (refused-length (o .refusal))
+answer-length o false e = rw e (refused-length _)
 
 line-fits : (l : Line) → length (lineText l) ≤ bufferLength
 unfolding lineText
-line-fits Malformed = refused-length 7
-line-fits (Read t r) = answer-length (opened t r 0) _ refl
+line-fits Malformed = refused-length _
+line-fits (Read t r) = answer-length _ _ refl
 
 -- a sheet fits into the program's buffer, whatever the input is
 pub sheet-fits : (input : List ℕ) → length (sheetText input) ≤ bufferLength
