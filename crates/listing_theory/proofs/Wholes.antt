@@ -1,17 +1,16 @@
 -- The texts of specs/Sheet are those that specs/Claims writes out: the lines of the two refusals, and the sheet of admitted t and r. Assumes nothing.
 use mathlib.Core.Path.{_≡_, refl, ap, ap₂, _∙_}
 use mathlib.Core.List.{List, [], _∷_, _++_, append-assoc, flatMap}
-use Prim.Native.Nat.{ℕ, zero, suc}
+use Prim.Native.Nat.{ℕ, zero, suc, _-_}
 use native.Mathlib.Numerals.{add-one}
 use native.Mathlib.Omega.{arith}
 use Rattle.layout_theory.specs.Parameters.{Admitted, placesOf, messageOf}
 use Rattle.layout_theory.specs.Layout.{from}
-use Rattle.coder_theory.specs.State.{fresh}
+use Rattle.coder_theory.specs.State.{fresh, placesIn, messageIn}
 use Rattle.coder_theory.specs.Calls.{elementAnswer, wordLength, messageLength}
-use Rattle.coder_theory.specs.Claims.{Shortens}
-use Rattle.coder_theory.proofs.States.{zero-usable}
+use Rattle.coder_theory.proofs.States.{Clear, usable-true, zero-usable}
+use Rattle.coder_theory.proofs.Answers.{usable-length}
 use Rattle.coder_theory.proofs.Refusals.{fresh-fit}
-use Rattle.coder_theory.proofs.Shortens.{shortens}
 use Rattle.listing_theory.specs.Decimal.{digitsWithin, decimal}
 use Rattle.listing_theory.specs.Sheet.{fieldText, refusedLine, headingText, placeLine, placeLines, listingText}
 use Rattle.listing_theory.specs.Claims.{refused7, refused1, lineOf, wholeSheet}
@@ -44,16 +43,16 @@ module _ (t r : ℕ) where
   places-written p (suc k) = rw (place-written p, add-one p, places-written (suc p) k)
 
 module _ (t r : ℕ) (ok : Admitted t r) where
-  own : Shortens (fresh t r 0) (fresh t r 0)
-  own =
-      shortens (fresh t r 0) (fresh t r 0) (zero-usable (fresh t r 0) (fresh-fit t r 0 ok) refl)
-      (record { isT = refl; isR = refl; isS = refl; fit = fresh-fit t r 0 ok })
+  clear : Clear (fresh t r 0)
+  clear = usable-true (fresh t r 0) (zero-usable (fresh t r 0) (fresh-fit t r 0 ok) refl)
 
   places : wordLength (fresh t r 0) ≡ placesOf t
-  places = own .places ∙ omega arith
+  unfolding wordLength placesIn
+  places = usable-length (fresh t r 0) (placesOf t - 0) clear ∙ omega arith
 
   message : messageLength (fresh t r 0) ≡ messageOf t
-  message = own .message ∙ omega arith
+  unfolding messageLength messageIn
+  message = usable-length (fresh t r 0) (messageOf t - 0) clear ∙ omega arith
 
   heading-written :
       headingText (fresh t r 0)
