@@ -2,8 +2,9 @@
 use mathlib.Core.Path.{_≡_, refl, sym, ap, ap₂, subst, _∙_}
 use mathlib.Core.Logic.{_↔_}
 use mathlib.Core.List.{List}
-use Prim.Native.Nat.{ℕ, _-_, _≤_, _<_}
+use Prim.Native.Nat.{ℕ, zero, suc, _-_, _≤_, _<_}
 use native.Mathlib.Omega.{arith}
+use lib.ListN.{length, drop}
 use Rattle.group_theory.specs.Group.{Modulus, Valid, sum, number, element}
 use Rattle.group_theory.proofs.Numbers.{element-number, element-zero, number-zeros}
 use Rattle.layout_theory.specs.Parameters.{placesOf}
@@ -15,15 +16,17 @@ use Rattle.words_theory.proofs.Thirds.{zero-word}
 use Rattle.words_theory.proofs.Theorem.{length-code}
 use Rattle.shortened_theory.specs.Code.{fill, oldPlace, shortenedSyndrome}
 use Rattle.shortened_theory.proofs.Filling.{fill-word, fill-zero, flip-fill}
-use Rattle.coder_theory.specs.State.{Usable, moduliIn, placesIn, messageIn, elementIn, syndromeIn, numberIn, CodewordIn}
-use Rattle.coder_theory.specs.Calls.{elementAnswer, syndromeAnswer, combineOutput}
+use Rattle.coder_theory.specs.State.{Usable, FallsOut, correctedIn, correctedOldPlaceIn, moduliIn, placesIn, messageIn, elementIn, syndromeIn, numberIn, CodewordIn}
+use Rattle.coder_theory.specs.Calls.{elementAnswer, syndromeAnswer, correctAnswer, combineOutput}
 use Rattle.coder_theory.specs.Demand1.{wordPlaces, IsWord, HasRoom}
-use Rattle.coder_theory.specs.Demand2.{written, TellsSyndrome, Demand2}
+use Rattle.coder_theory.specs.Demand2.{written, TellsSyndrome, CorrectsWithin, Demand2}
 use Rattle.coder_theory.specs.declared.Record.{Record}
 use Rattle.coder_theory.specs.declared.ElementAnswer.{ElementAnswer}
 use Rattle.coder_theory.proofs.States.{code-in, word-in, filled-in}
-use Rattle.coder_theory.proofs.Refusals.{tells}
-use Rattle.coder_theory.proofs.Accepted.{syndrome-accepts, reading-accepts}
+use Rattle.coder_theory.proofs.Refusals.{tells, correct-untouched}
+use Rattle.coder_theory.proofs.Accepted.{syndrome-accepts, reading-accepts, correct-accepts, front}
+use Rattle.coder_theory.proofs.Corrections.{nearest-in}
+use Rattle.coder_theory.proofs.Accepts.{accepts, kept}
 use Rattle.coder_theory.proofs.Codewords.{says-codeword, word-of, zero-of}
 use Rattle.coder_theory.proofs.Layouts.{tells-layout, tells-once}
 use Rattle.coder_theory.proofs.Messages.{encodes}
@@ -59,9 +62,9 @@ module _ (rec : Record) (f : Usable rec) where
       ∙ ap (λ (w : List ℕ). number ms (of w)) e
       ∙ ap (number ms) (code-in rec f .groups .adds x y (word-in rec f h) (word-in rec f k) ∙ ap₂ (sum ms) (sym (back x h)) (sym (back y k)))
 
-  zero : (w : List ℕ) → IsWord rec w → (syndromeAnswer rec w .element ≡ 0) ↔ CodewordIn rec w
+  codewords : (w : List ℕ) → IsWord rec w → (syndromeAnswer rec w .element ≡ 0) ↔ CodewordIn rec w
   unfolding placesIn shortenedSyndrome
-  zero w h = (
+  codewords w h = (
     (λ e. record { isWord = filled-in rec f h; isZero = sym (back w h) ∙ ap (element ms) e ∙ element-zero ms }),
     λ c. told w h ∙ ap (number ms) (c .isZero) ∙ number-zeros ms,
   )
@@ -90,7 +93,24 @@ module _ (rec : Record) (f : Usable rec) where
       ∙ sym (ap (λ (x : ElementAnswer). x .element) (tells rec p f a b))
 
   syndrome : TellsSyndrome rec
-  syndrome = record { ones = λ p l. ones p (l .0) (l .1); sums = sums; zero = zero }
+  syndrome = record { ones = λ p l. ones p (l .0) (l .1); sums = sums; codewords = codewords }
+
+  -- ---- the bytes behind a corrected word
+  corrected-word : (w : List ℕ) → IsWord rec w → (FallsOut rec w → ⊥) → length (correctedIn rec w) ≡ wordPlaces rec
+  unfolding placesIn correctedIn correctedOldPlaceIn
+  corrected-word w h q = word-of rec f (correctedIn rec w) (nearest-in rec w f h .codeword q) .places
+
+  behind : (w out : List ℕ) → IsWord rec w → CorrectsWithin rec w out
+  unfolding placesIn
+  behind w out h = go (correctAnswer rec w out .refusal) refl
+    where
+      go : (n : ℕ) → correctAnswer rec w out .refusal ≡ n → CorrectsWithin rec w out
+      go zero e =
+          let a = accepts rec .correct w out .0 e in
+          let q = kept rec w f h (a .3) in
+          ap (drop (wordPlaces rec)) (correct-accepts rec w out f (a .4) q h (a .2) .1)
+          ∙ front (wordPlaces rec) (correctedIn rec w) out (corrected-word w h q) .1
+      go (suc n) e = ap (drop (wordPlaces rec)) (correct-untouched rec w out (λ z. let c : suc n ≡ 0 = sym e ∙ z in omega arith) .0)
 
 pub demand2 : Demand2
 unfolding placesIn messageIn
@@ -102,6 +122,7 @@ demand2 rec f =
       test = says-codeword rec f;
       reads = λ w c. reading-accepts rec w f (word-of rec f w c) (zero-of rec f w c) .0;
       encodes = λ m out h l. encodes rec m out f h l;
+      corrects = λ w out h l. behind rec f w out h;
       combines = λ x y out h k l. combines rec x y out f h k l;
       inverts = λ w out h l. inverts rec w out f h l;
       thirds = λ i j a b n. thirds rec i j f (a .0) (a .1) (b .0) (b .1) n;

@@ -14,7 +14,7 @@ use Rattle.words_theory.specs.Words.{zeroWord, flip}
 use Rattle.words_theory.specs.Words as words
 use Rattle.coder_theory.specs.State.{Usable, RecordOf, CodewordIn, ThreeIn}
 use Rattle.coder_theory.specs.Calls.{wordLength, messageLength, elementAnswer, syndromeAnswer, codewordAnswer, shown}
-use Rattle.coder_theory.specs.Calls.{encodeAnswer, encodeOutput, combineAnswer, combineOutput, invertAnswer, invertOutput, thirdAnswer}
+use Rattle.coder_theory.specs.Calls.{encodeAnswer, encodeOutput, correctOutput, combineAnswer, combineOutput, invertAnswer, invertOutput, thirdAnswer}
 use Rattle.coder_theory.specs.Demand1.{wordPlaces, messagePlaces, IsPlace, IsWord, IsMessage, HasRoom}
 use Rattle.coder_theory.specs.declared.Record.{Record}
 
@@ -49,7 +49,7 @@ pub record TellsSyndrome (rec : Record) : Type 0 where
   pub sums : (x y out : List ℕ) → IsWord rec x → IsWord rec y → HasRoom rec out
       → syndromeAnswer rec (written rec (combineOutput rec x y out)) .element
       ≡ number (moduliOfCode rec) (sum (moduliOfCode rec) (element (moduliOfCode rec) (syndromeAnswer rec x .element)) (element (moduliOfCode rec) (syndromeAnswer rec y .element)))
-  pub zero : (w : List ℕ) → IsWord rec w → (syndromeAnswer rec w .element ≡ 0) ↔ CodewordIn rec w
+  pub codewords : (w : List ℕ) → IsWord rec w → (syndromeAnswer rec w .element ≡ 0) ↔ CodewordIn rec w
 
 -- ---- encoding and reading: "Each message gives the one codeword that begins with it, reading that codeword shows the message", with any
 -- usable record of the same t, r and s
@@ -89,6 +89,10 @@ pub record Thirds (rec : Record) (i j : ℕ) : Type 0 where
   pub none : (thirdAnswer rec i j .refusal ≡ 11) ↔ ((k : ℕ) → ThreeIn rec i j k → ⊥)
   pub one : rec .s ≡ 0 → ThreeIn rec i j (thirdAnswer rec i j .place)
 
+-- ---- "A longer one keeps its further bytes": what correction leaves behind the n − s bytes that it writes, of which demand 3 speaks
+abbrev pub CorrectsWithin : Record → List ℕ → List ℕ → Type 0
+CorrectsWithin rec w out = drop (wordPlaces rec) (correctOutput rec w out) ≡ drop (wordPlaces rec) out
+
 -- ---- all of it
 pub record Demand2In (rec : Record) : Type 0 where
   pub layout : TellsLayout rec
@@ -98,6 +102,7 @@ pub record Demand2In (rec : Record) : Type 0 where
   pub test : (w : List ℕ) → (codewordAnswer rec w .yes ≡ true) ↔ CodewordIn rec w
   pub reads : (w : List ℕ) → CodewordIn rec w → shown rec w ≡ take (messagePlaces rec) w
   pub encodes : (m out : List ℕ) → IsMessage rec m → HasRoom rec out → Encodes rec m out
+  pub corrects : (w out : List ℕ) → IsWord rec w → HasRoom rec out → CorrectsWithin rec w out
   pub combines : (x y out : List ℕ) → IsWord rec x → IsWord rec y → HasRoom rec out → Combines rec x y out
   pub inverts : (w out : List ℕ) → IsWord rec w → HasRoom rec out → Inverts rec w out
   pub thirds : (i j : ℕ) → IsPlace rec i → IsPlace rec j → i ≢ j → Thirds rec i j

@@ -9,7 +9,8 @@ use Rattle.group_theory.specs.Group.{zeros, number}
 use Rattle.group_theory.proofs.Numbers.{number-zeros}
 use Rattle.layout_theory.specs.Parameters.{Admitted, placesOf, moduliFor}
 use Rattle.layout_theory.specs.Layout.{from, slots, places, elementAt}
-use Rattle.layout_theory.proofs.Printed.{numbers, printed}
+use Rattle.layout_theory.specs.Claims.{numbers}
+use Rattle.layout_theory.proofs.Printed.{printed}
 use Rattle.shortened_theory.proofs.Whole.{element-zero}
 use Rattle.coder_theory.specs.State.{fresh, placesIn, elementIn}
 use Rattle.coder_theory.specs.Calls.{elementAnswer}

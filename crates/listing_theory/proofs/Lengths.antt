@@ -8,7 +8,7 @@ use native.Mathlib.Numerals.{add-one}
 use native.Mathlib.Omega.{arith}
 use lib.Dec.{eqb}
 use lib.ListN.{length, length-append}
-use Rattle.coder_theory.specs.Calls.{opened, wordLength, messageLength}
+use Rattle.coder_theory.specs.Calls.{wordLength, messageLength}
 use Rattle.coder_theory.specs.declared.Record.{Record}
 use Rattle.coder_theory.specs.declared.Opened.{Opened}
 use Rattle.coder_theory.proofs.Bounds.{word-length-bound}

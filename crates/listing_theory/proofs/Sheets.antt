@@ -13,7 +13,7 @@ use Rattle.coder_theory.proofs.Refusals.{opens-zero}
 use Rattle.listing_theory.specs.Form.{readLine}
 use Rattle.listing_theory.specs.Spelling.{Spells}
 use Rattle.listing_theory.specs.Sheet.{answerText, lineText, sheetText}
-use Rattle.listing_theory.specs.Claims.{refused7, refused1, wholeSheet, bufferLength, SheetOf}
+use Rattle.listing_theory.specs.Claims.{refused7, refused1, wholeSheet, bufferLength, Sheets}
 use Rattle.listing_theory.specs.declared.Line.{Line}
 use Rattle.listing_theory.specs.declared.Line.the-variants.{Read, Malformed}
 use Rattle.listing_theory.proofs.Forms.{spelt-is-read, spells}
@@ -60,7 +60,7 @@ module _ (input : List ℕ) where
       let s = spells t r input e in
       (t, r, s, λ h. differ 0 (sheetText input) refused1 (wholeSheet t (inForce t r)) o (of-admitted t r s h) (λ z. omega arith))
 
-pub sheet-of : (input : List ℕ) → SheetOf input
+pub sheet-of : Sheets
 sheet-of input =
     record {
       malformed = ((λ e t r s. not-seven input t r s _ refl e), unspelt input _ refl);

@@ -48,6 +48,9 @@ pub record SheetOf (input : List ℕ) : Type 0 where
   pub listed : (t r : ℕ) → Spells input t r → Admitted t (inForce t r) → sheetText input ≡ wholeSheet t (inForce t r)
   pub fits : length (sheetText input) ≤ bufferLength
 
+abbrev pub Sheets : Type 0
+Sheets = (input : List ℕ) → SheetOf input
+
 -- the decimal numeral of n: digits, one at least, whose value is n, and 0 is the first of them only where it is the only one
 pub record Numeral (n : ℕ) (ds : List ℕ) : Type 0 where
   pub digits : Digits ds

@@ -5,6 +5,7 @@ use mathlib.Core.List.{List, _++_}
 use mathlib.Core.Bool.{true, false, not}
 use Prim.Native.Nat.{ℕ, zero, suc, _<_, _≤_}
 use lib.ListN.{length, drop}
+use lib.IntN.{pos}
 use borrow.Author.Tests.{eqb-false, ltb-false, not-false, ne-eqb, le-ltb}
 use Rattle.layout_theory.specs.Parameters.{Admitted, admits, placesOf, messageOf}
 use Rattle.layout_theory.proofs.Parameters.{admits-admitted, admitted-admits}
@@ -28,6 +29,13 @@ use Rattle.z2z4_theory.specs.Demand1.{refusalOf, OutsideOf, writeRowsFor
 tells : (n p : ℕ) → refusalOf (signed n p) ≡ n
 tells zero p = refl
 tells (suc n) p = refl
+
+-- a call that tells no place answers 0 exactly where it is accepted
+answers-zero : (rs : List Reason) {F : Type 0} → (refusalOf (signed (firstReason rs .number) 0) ≡ 0) ↔ F → (signed (firstReason rs .number) 0 ≡ pos 0) ↔ F
+answers-zero rs same = (
+  (λ e. same .0 (ap refusalOf e)),
+  λ h. ap (λ (k : ℕ). signed k 0) (sym (tells (firstReason rs .number) 0) ∙ same .1 h),
+)
 
 module _ (t r : ℕ) where
   abbrev code : Record
@@ -113,9 +121,9 @@ module _ (t r : ℕ) where
   unfolding encodeAnswerForC correctAnswerForC combineAnswerForC thirdAnswerForC
   accepts =
       record {
-        encode = λ m out. write-where (messageIn code) (messageOf t) m out 0 message;
+        encode = λ m out. answers-zero (encodeReasonsForC t r m (length out)) (write-where (messageIn code) (messageOf t) m out 0 message);
         correct = λ w out. write-where (placesIn code) (placesOf t) w out (correctedPlaceIn code w) all;
-        combine = λ x y out. (
+        combine = λ x y out. answers-zero (combineReasonsForC t r x y (length out)) (
           (λ z.
               let h = accepted-none (combineReasonsForC t r x y (length out)) refl (sym (tells _ 0) ∙ z) in (
                 admitted-by (h .0),

@@ -38,10 +38,11 @@ pub record RefusedForC (t r : ℕ) : Type 0 where
   -- "6. Two equal places."
   pub third : (i j : ℕ) → Refused (refusalOf (thirdAnswerForC t r i j)) ((1, NotAdmitted t r) ∷ (5, OutsideOf t i ⊎ OutsideOf t j) ∷ (6, i ≡ j) ∷ [])
 
+-- encoding and combining then answer 0; what correction and third place answer is demand 3 and `ThirdsForC`
 pub record AcceptsForC (t r : ℕ) : Type 0 where
-  pub encode : (m out : List ℕ) → (refusalOf (encodeAnswerForC t r m out) ≡ 0) ↔ (Admitted t (inForce t r) × Word (messageOf t) m × (placesOf t ≤ length out))
+  pub encode : (m out : List ℕ) → (encodeAnswerForC t r m out ≡ pos 0) ↔ (Admitted t (inForce t r) × Word (messageOf t) m × (placesOf t ≤ length out))
   pub correct : (w out : List ℕ) → (refusalOf (correctAnswerForC t r w out) ≡ 0) ↔ (Admitted t (inForce t r) × Word (placesOf t) w × (placesOf t ≤ length out))
-  pub combine : (x y out : List ℕ) → (refusalOf (combineAnswerForC t r x y out) ≡ 0)
+  pub combine : (x y out : List ℕ) → (combineAnswerForC t r x y out ≡ pos 0)
       ↔ (Admitted t (inForce t r) × Word (placesOf t) x × Word (placesOf t) y × (placesOf t ≤ length out))
   pub third : (i j : ℕ) → (refusalOf (thirdAnswerForC t r i j) ≡ 0)
       ↔ (Admitted t (inForce t r) × (0 < i) × (i ≤ placesOf t) × (0 < j) × (j ≤ placesOf t) × (i ≢ j))
