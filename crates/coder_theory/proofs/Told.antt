@@ -1,8 +1,8 @@
 -- "place 0 except for 4": what place each call tells, and that reading shows an empty part exactly where it must. Assumes nothing.
 use mathlib.Core.Path.{_≡_, refl, sym, ap, subst, _∙_}
 use mathlib.Core.Logic.{inl, inr, _≢_}
-use mathlib.Core.List.{List, [], _∷_, _++_}
-use mathlib.Core.Bool.{true, false}
+use mathlib.Core.List.{List, [], _∷_, _++_, append-nil}
+use mathlib.Core.Bool.{Bool, true, false, not, _&&_}
 use Prim.Native.Nat.{ℕ, _≤_}
 use native.Mathlib.Omega.{arith}
 use borrow.Author.Tests.{eqb-true, eqb-false, not-true, not-false}
@@ -10,12 +10,12 @@ use lib.Dec.{eqb}
 use lib.ListN.{length, take}
 use lib.Seq.{length-take-le}
 use Rattle.coder_theory.specs.State.{Usable, placesIn, correctedOldPlaceIn, messageIn, isCodewordIn}
-use Rattle.coder_theory.specs.Reasons.{Reason, firstReason, leftOut, badPlace, badByte, full}
-use Rattle.coder_theory.specs.Calls.{wordReasons, syndromeAnswer, codewordAnswer, shown, writeReasons, encodeReasons, encodeAnswer}
+use Rattle.coder_theory.specs.Reasons.{Reason, firstReason, wrongLength, shortOutput, leftOut, badPlace, badByte, full}
+use Rattle.coder_theory.specs.Calls.{stateReasons, wordReasons, syndromeAnswer, codewordAnswer, shown, writeReasons, encodeReasons, encodeAnswer}
 use Rattle.coder_theory.specs.Calls.{correctReasons, correctAnswer, combineReasons, combineAnswer, invertReasons, invertAnswer, thirdReasons, thirdAnswer}
 use Rattle.coder_theory.specs.Demand1.{Lowest, TellsPlace, TellsPlaceOfTwo}
 use Rattle.coder_theory.specs.declared.Record.{Record}
-use Rattle.coder_theory.proofs.Firsts.{NoneApplies, AllTell, no-place, none-accepted, first-tells}
+use Rattle.coder_theory.proofs.Firsts.{and-true, NoneApplies, AllTell, no-place, none-accepted, first-tells}
 use Rattle.coder_theory.proofs.Bytes.{none-bits, lowest}
 use Rattle.coder_theory.proofs.Outcomes.{if-refused, word-accepted, shown-codeword}
 
@@ -29,42 +29,36 @@ bad-lowest w e = lowest w (eqb-false (badPlace w) 0 (not-true (eqb (badPlace w) 
 bad-tells : (w : List ℕ) → badByte w .applies ≡ true → TellsPlace 4 (badPlace w) w
 bad-tells w e = record { none = λ h. absurd (h refl); lowest = λ z. bad-lowest w e }
 
-abbrev Tells : List ℕ → ℕ → ℕ → Type 0
-Tells w n p = TellsPlace n p w
-
 end-tells : (w : List ℕ) → TellsPlace 0 0 w
 end-tells w = other 0 w (λ e. omega arith)
 
+abbrev Tells : List ℕ → ℕ → ℕ → Type 0
+Tells w n p = TellsPlace n p w
+
+-- reasons that tell no place and have another number than 4, which a list computes, before others
+abbrev silent : List Reason → Bool
+silent [] = true
+silent (x ∷ xs) = eqb (x .place) 0 && (not (eqb (x .number) 4) && silent xs)
+
+after-silent : (T : ℕ → ℕ → Type 0) → ((n : ℕ) → n ≢ 4 → T n 0) → (xs ys : List Reason) → silent xs ≡ true → AllTell T ys → AllTell T (xs ++ ys)
+after-silent T told [] ys e h = h
+after-silent T told (x ∷ xs) ys e h =
+    let a = and-true (eqb (x .place) 0) (not (eqb (x .number) 4) && silent xs) e in
+    let b = and-true (not (eqb (x .number) 4)) (silent xs) (a .1) in (
+      (λ y. subst (T (x .number)) (sym (eqb-true (x .place) 0 (a .0))) (told (x .number) (eqb-false (x .number) 4 (not-true (eqb (x .number) 4) (b .0))))),
+      λ y. after-silent T told xs ys (b .1) h,
+    )
+
 word-tells : (rec : Record) (w : List ℕ) → AllTell (Tells w) (wordReasons rec w)
-word-tells rec w = (
-  (λ e. other 21 w (λ e. omega arith)),
-  λ e. (
-    (λ e. other 22 w (λ e. omega arith)),
-    λ e. (
-      (λ e. other 10 w (λ e. omega arith)),
-      λ e.
-          ((λ e. other 2 w (λ e. omega arith)), λ e. (bad-tells w, λ e. end-tells w)),
-    ),
-  ),
-)
+word-tells rec w = after-silent (Tells w) (λ n. other n w) (stateReasons rec ++ (wrongLength (placesIn rec) w ∷ [])) (badByte w ∷ []) refl (bad-tells w, λ e. end-tells w)
 
 -- with further reasons rs after 4
-write-tells : (rec : Record) (n : ℕ) (w : List ℕ) (room : ℕ) (rs : List Reason) → AllTell (Tells w) rs
-    → AllTell (Tells w) (writeReasons rec n w room ++ rs)
-write-tells rec n w room rs a = (
-  (λ e. other 21 w (λ e. omega arith)),
-  λ e. (
-    (λ e. other 22 w (λ e. omega arith)),
-    λ e. (
-      (λ e. other 10 w (λ e. omega arith)),
-      λ e. (
-        (λ e. other 2 w (λ e. omega arith)),
-        λ e.
-            ((λ e. other 3 w (λ e. omega arith)), λ e. (bad-tells w, λ e. a)),
-      ),
-    ),
-  ),
-)
+write-tells : (rec : Record) (n : ℕ) (w : List ℕ) (room : ℕ) (rs : List Reason) → silent rs ≡ true → AllTell (Tells w) (writeReasons rec n w room ++ rs)
+write-tells rec n w room rs e =
+    after-silent (Tells w) (λ n. other n w) (stateReasons rec ++ (wrongLength n w ∷ shortOutput (placesIn rec) room ∷ [])) (badByte w ∷ rs) refl (
+      bad-tells w,
+      λ y. subst (AllTell (Tells w)) (append-nil rs) (after-silent (Tells w) (λ n. other n w) rs [] e (end-tells w)),
+    )
 
 pub syndrome-tells : (rec : Record) (w : List ℕ) → TellsPlace (syndromeAnswer rec w .refusal) (syndromeAnswer rec w .place) w
 unfolding syndromeAnswer
@@ -77,12 +71,12 @@ codeword-tells rec w = first-tells (Tells w) (wordReasons rec w) (word-tells rec
 pub encode-tells : (rec : Record) (m out : List ℕ) → TellsPlace (encodeAnswer rec m out .refusal) (encodeAnswer rec m out .place) m
 unfolding encodeAnswer
 encode-tells rec m out =
-    first-tells (Tells m) (encodeReasons rec m (length out)) (write-tells rec (messageIn rec) m (length out) [] (end-tells m))
+    first-tells (Tells m) (encodeReasons rec m (length out)) (write-tells rec (messageIn rec) m (length out) [] refl)
 
 pub invert-tells : (rec : Record) (w out : List ℕ) → TellsPlace (invertAnswer rec w out .refusal) (invertAnswer rec w out .place) w
 unfolding invertAnswer
 invert-tells rec w out =
-    first-tells (Tells w) (invertReasons rec w (length out)) (write-tells rec (placesIn rec) w (length out) [] (end-tells w))
+    first-tells (Tells w) (invertReasons rec w (length out)) (write-tells rec (placesIn rec) w (length out) [] refl)
 
 -- the place of a refused correction; that of an accepted one is the place it changes
 pub correct-tells : (rec : Record) (w out : List ℕ) → correctAnswer rec w out .refusal ≢ 0
@@ -91,39 +85,24 @@ unfolding correctAnswer
 correct-tells rec w out h =
     let x = firstReason (correctReasons rec w (length out)) in
     subst (λ (p : ℕ). TellsPlace (x .number) p w) (sym (if-refused _ _ _ h))
-    (first-tells (Tells w) (correctReasons rec w (length out)) (write-tells rec (placesIn rec) w (length out) (leftOut (rec .s) (correctedOldPlaceIn rec w) ∷ full rec ∷ []) ((λ e. other 11 w (λ e. omega arith)), λ e. ((λ e. other 23 w (λ e. omega arith)), λ e. end-tells w))))
+    (first-tells (Tells w) (correctReasons rec w (length out)) (write-tells rec (placesIn rec) w (length out) (leftOut (rec .s) (correctedOldPlaceIn rec w) ∷ full rec ∷ []) refl))
 
 -- ---- two words
 pub combine-tells : (rec : Record) (x y out : List ℕ) → TellsPlaceOfTwo (combineAnswer rec x y out .refusal) (combineAnswer rec x y out .place) x y
 unfolding combineAnswer
 combine-tells rec x y out =
-    first-tells (λ (n p : ℕ). TellsPlaceOfTwo n p x y) (combineReasons rec x y (length out)) (
-      (λ e. none 21 (λ e. omega arith)),
-      λ e. (
-        (λ e. none 22 (λ e. omega arith)),
-        λ e. (
-          (λ e. none 10 (λ e. omega arith)),
-          λ e. (
-            (λ e. none 2 (λ e. omega arith)),
-            λ e. (
-              (λ e. none 2 (λ e. omega arith)),
-              λ e. (
-                (λ e. none 3 (λ e. omega arith)),
-                λ e. (
-                  (λ e. record { none = λ h. absurd (h refl); lowest = λ z. inl (bad-lowest x e) }),
-                  λ b. (
-                    (λ e. record { none = λ h. absurd (h refl); lowest = λ z. inr (none-bits 0 x (eqb-true (badPlace x) 0 (not-false (eqb (badPlace x) 0) b)), bad-lowest y e) }),
-                    λ e.
-                        none 0 (λ e. omega arith),
-                  ),
-                ),
-              ),
-            ),
-          ),
-        ),
+    first-tells T (combineReasons rec x y (length out))
+    (after-silent T none (stateReasons rec ++ (wrongLength (placesIn rec) x ∷ wrongLength (placesIn rec) y ∷ shortOutput (placesIn rec) (length out) ∷ [])) (badByte x ∷ badByte y ∷ []) refl (
+      (λ e. record { none = λ h. absurd (h refl); lowest = λ z. inl (bad-lowest x e) }),
+      λ b. (
+        (λ e. record { none = λ h. absurd (h refl); lowest = λ z. inr (none-bits 0 x (eqb-true (badPlace x) 0 (not-false (eqb (badPlace x) 0) b)), bad-lowest y e) }),
+        λ e. none 0 (λ e. omega arith),
       ),
-    )
+    ))
   where
+    T : ℕ → ℕ → Type 0
+    T n p = TellsPlaceOfTwo n p x y
+
     none : (n : ℕ) → n ≢ 4 → TellsPlaceOfTwo n 0 x y
     none n h = record { none = λ e. refl; lowest = λ e. absurd (h e) }
 
