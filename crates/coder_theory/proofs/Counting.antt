@@ -32,7 +32,7 @@ module _ (rec : Record) (w out : List ℕ) where
   abbrev next : Record
   next = correctAnswer rec w out .«record»
 
-  stepped : correctAnswer rec w out .refusal ≡ 0 → next ≡ counted rec (correctAnswer rec w out .place)
+  pub stepped : correctAnswer rec w out .refusal ≡ 0 → next ≡ counted rec (correctAnswer rec w out .place)
   unfolding correctAnswer
   stepped e = rw e
 
@@ -150,6 +150,12 @@ old-in rec w out e =
     let n = length-code (rec .t) (rec .r) (f .fit .admitted) in
     let st = f .allowed .stays in
     old-within (lengthOf (moduliIn rec)) (rec .s) (shortenedCorrectedPlace (moduliIn rec) (rec .s) w) (omega arith) (nearest rec w out e .within)
+
+-- the place that it tells is of one kind
+pub one-of : (rec : Record) (w out : List ℕ) → correctAnswer rec w out .refusal ≡ 0
+    → let p = correctAnswer rec w out .place in
+    oneIf (eqb p 0) + oneIf (isShortenedBinary (moduliIn rec) (rec .s) p) + oneIf (isShortenedPaired (moduliIn rec) (rec .s) p) ≡ 1
+one-of rec w out e = one-kind (moduliIn rec) (rec .s) (correctAnswer rec w out .place) (rw (place-told rec w out e) (old-in rec w out e))
 
 stays-fit : (rec : Record) (xs : List Call) → Usable rec → Usable (run rec xs)
 unfolding run

@@ -16,10 +16,10 @@ use Rattle.words_theory.proofs.Thirds.{zero-word}
 use Rattle.words_theory.proofs.Theorem.{length-code}
 use Rattle.shortened_theory.specs.Code.{fill, oldPlace, shortenedSyndrome}
 use Rattle.shortened_theory.proofs.Filling.{fill-word, fill-zero, flip-fill}
-use Rattle.coder_theory.specs.State.{Usable, FallsOut, correctedIn, correctedOldPlaceIn, moduliIn, placesIn, messageIn, elementIn, syndromeIn, numberIn, CodewordIn}
-use Rattle.coder_theory.specs.Calls.{elementAnswer, syndromeAnswer, correctAnswer, combineOutput}
+use Rattle.coder_theory.specs.State.{Usable, FallsOut, counted, isBinaryIn, isPairedIn, correctedIn, correctedOldPlaceIn, moduliIn, placesIn, messageIn, elementIn, syndromeIn, numberIn, CodewordIn}
+use Rattle.coder_theory.specs.Calls.{elementAnswer, syndromeAnswer, correctAnswer, correctOutput, combineOutput}
 use Rattle.coder_theory.specs.Demand1.{wordPlaces, IsWord, HasRoom}
-use Rattle.coder_theory.specs.Demand2.{written, TellsSyndrome, CorrectsWithin, Demand2}
+use Rattle.coder_theory.specs.Demand2.{firstBytes, TellsSyndrome, CorrectsIn, Demand2}
 use Rattle.coder_theory.specs.declared.Record.{Record}
 use Rattle.coder_theory.specs.declared.ElementAnswer.{ElementAnswer}
 use Rattle.coder_theory.proofs.States.{code-in, word-in, filled-in}
@@ -28,6 +28,7 @@ use Rattle.coder_theory.proofs.Accepted.{syndrome-accepts, reading-acce
 use Rattle.coder_theory.proofs.Corrections.{nearest-in}
 use Rattle.coder_theory.proofs.Accepts.{accepts, kept}
 use Rattle.coder_theory.proofs.Codewords.{says-codeword, word-of, zero-of}
+use Rattle.coder_theory.proofs.Counting.{stepped, one-of}
 use Rattle.coder_theory.proofs.Layouts.{tells-layout, tells-once}
 use Rattle.coder_theory.proofs.Messages.{encodes}
 use Rattle.coder_theory.proofs.Triples.{combined-front, combines, inverts, thirds}
@@ -52,13 +53,13 @@ module _ (rec : Record) (f : Usable rec) where
   back w h = ap (element ms) (told w h) ∙ element-number ms (of w) (valid w)
 
   sums : (x y out : List ℕ) → IsWord rec x → IsWord rec y → HasRoom rec out
-      → syndromeAnswer rec (written rec (combineOutput rec x y out)) .element
+      → syndromeAnswer rec (firstBytes rec (combineOutput rec x y out)) .element
       ≡ number ms (sum ms (element ms (syndromeAnswer rec x .element)) (element ms (syndromeAnswer rec y .element)))
   unfolding placesIn
   sums x y out h k l =
       let c = combines rec x y out f h k l in
       let e = combined-front (rec .t) (rec .r) (rec .s) rec (f .allowed) (record { isT = refl; isR = refl; isS = refl; fit = f .fit }) x y out h k l in
-      told (written rec (combineOutput rec x y out)) (c .word)
+      told (firstBytes rec (combineOutput rec x y out)) (c .word)
       ∙ ap (λ (w : List ℕ). number ms (of w)) e
       ∙ ap (number ms) (code-in rec f .groups .adds x y (word-in rec f h) (word-in rec f k) ∙ ap₂ (sum ms) (sym (back x h)) (sym (back y k)))
 
@@ -100,17 +101,21 @@ module _ (rec : Record) (f : Usable rec) where
   unfolding placesIn correctedIn correctedOldPlaceIn
   corrected-word w h q = word-of rec f (correctedIn rec w) (nearest-in rec w f h .codeword q) .places
 
-  behind : (w out : List ℕ) → IsWord rec w → CorrectsWithin rec w out
+  behind : (w out : List ℕ) → IsWord rec w → drop (wordPlaces rec) (correctOutput rec w out) ≡ drop (wordPlaces rec) out
   unfolding placesIn
   behind w out h = go (correctAnswer rec w out .refusal) refl
     where
-      go : (n : ℕ) → correctAnswer rec w out .refusal ≡ n → CorrectsWithin rec w out
+      go : (n : ℕ) → correctAnswer rec w out .refusal ≡ n → drop (wordPlaces rec) (correctOutput rec w out) ≡ drop (wordPlaces rec) out
       go zero e =
           let a = accepts rec .correct w out .0 e in
           let q = kept rec w f h (a .3) in
           ap (drop (wordPlaces rec)) (correct-accepts rec w out f (a .4) q h (a .2) .1)
           ∙ front (wordPlaces rec) (correctedIn rec w) out (corrected-word w h q) .1
       go (suc n) e = ap (drop (wordPlaces rec)) (correct-untouched rec w out (λ z. let c : suc n ≡ 0 = sym e ∙ z in omega arith) .0)
+
+  corrects : (w out : List ℕ) → IsWord rec w → CorrectsIn rec w out
+  unfolding counted isBinaryIn isPairedIn
+  corrects w out h = record { further = behind w out h; adds = stepped rec w out; one = one-of rec w out }
 
 pub demand2 : Demand2
 unfolding placesIn messageIn
@@ -122,7 +127,7 @@ demand2 rec f =
       test = says-codeword rec f;
       reads = λ w c. reading-accepts rec w f (word-of rec f w c) (zero-of rec f w c) .0;
       encodes = λ m out h l. encodes rec m out f h l;
-      corrects = λ w out h l. behind rec f w out h;
+      corrects = λ w out h l. corrects rec f w out h;
       combines = λ x y out h k l. combines rec x y out f h k l;
       inverts = λ w out h l. inverts rec w out f h l;
       thirds = λ i j a b n. thirds rec i j f (a .0) (a .1) (b .0) (b .1) n;

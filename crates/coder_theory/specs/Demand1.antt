@@ -1,6 +1,7 @@
 -- Demand 1 of opening and of the calls on a record: "Unfit parameters, lengths, bytes, places and records are refused by the numbers and in the
 -- order of document 01, for those reasons only, and a refused call alters no byte and no count." The theorem is `demand1 : Demand1`
--- (proofs/Demand1). It speaks in plain facts, not of the lists of reasons by which specs/Calls defines the answers. Assumes nothing.
+-- (proofs/Demand1). It speaks in plain facts, not of the lists of reasons by which specs/Calls makes the answers. `HasNear`, a codeword within one
+-- place, is in specs/Demand3Shortened. Assumes nothing.
 use mathlib.Core.Path.{_≡_}
 use mathlib.Core.Logic.{_≢_, _↔_, _⊎_}
 use mathlib.Core.Bool.{Bool, true, false}
@@ -71,9 +72,9 @@ NotBits w = Bits w → ⊥
 abbrev pub Outside : Record → ℕ → Type 0
 Outside rec p = (p ≡ 0) ⊎ (wordPlaces rec < p)
 
--- "2. A read word or message not of its exact length, an empty one too.": of w, which has to have n bytes, and an output
+-- "2. A read word or message not of its exact length, an empty one too.": of w, which has to have k bytes, and an output
 abbrev pub writeRows : Record → ℕ → List ℕ → List ℕ → List (ℕ × Type 0)
-writeRows rec n w out = stateRows rec ++ ((2, length w ≢ n) ∷ (3, Short rec out) ∷ (4, NotBits w) ∷ [])
+writeRows rec k w out = stateRows rec ++ ((2, length w ≢ k) ∷ (3, Short rec out) ∷ (4, NotBits w) ∷ [])
 
 pub record RefusedIn (rec : Record) : Type 0 where
   pub layout : (p : ℕ) → Refused (elementAnswer rec p .refusal) (stateRows rec ++ ((5, Outside rec p) ∷ []))
@@ -136,7 +137,8 @@ pub record TellsPlaceOfTwo (x p : ℕ) (v w : List ℕ) : Type 0 where
   pub none : x ≢ 4 → p ≡ 0
   pub lowest : x ≡ 4 → Lowest v p ⊎ (Bits v × Lowest w p)
 
--- what a call gives where it is refused; the place, which is told by refused calls and by others, of correction and third place only then
+-- what a call gives where it is refused. The place is said of accepted calls too, which tell 0; of correction and third place only where they
+-- are refused
 pub record RefusalGives (rec : Record) : Type 0 where
   -- "A refused syndrome or layout call gives element number 0, and a refused codeword test says no."
   pub layout : (p : ℕ) → (elementAnswer rec p .place ≡ 0) × (elementAnswer rec p .refusal ≢ 0 → elementAnswer rec p .element ≡ 0)

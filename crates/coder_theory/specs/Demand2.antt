@@ -6,15 +6,18 @@ use mathlib.Core.Logic.{_≢_, _↔_}
 use mathlib.Core.List.{List, _++_, map}
 use mathlib.Core.Bool.{true}
 use Prim.Native.Nat.{ℕ, _+_, _<_, _≤_}
+use lib.Dec.{eqb}
 use lib.ListN.{length, take, drop}
 use Rattle.group_theory.specs.Group.{Modulus, sum, number, element}
+use Rattle.layout_theory.specs.Choice.{oneIf}
 use Rattle.layout_theory.specs.Parameters.{placesOf, moduliFor}
 use Rattle.layout_theory.specs.Layout.{from, slots, places}
 use Rattle.words_theory.specs.Words.{zeroWord, flip}
 use Rattle.words_theory.specs.Words as words
+use Rattle.shortened_theory.specs.Code.{isShortenedBinary, isShortenedPaired}
 use Rattle.coder_theory.specs.State.{Usable, RecordOf, CodewordIn, ThreeIn}
 use Rattle.coder_theory.specs.Calls.{wordLength, messageLength, elementAnswer, syndromeAnswer, codewordAnswer, shown}
-use Rattle.coder_theory.specs.Calls.{encodeAnswer, encodeOutput, correctOutput, combineAnswer, combineOutput, invertAnswer, invertOutput, thirdAnswer}
+use Rattle.coder_theory.specs.Calls.{encodeAnswer, encodeOutput, correctAnswer, correctOutput, combineAnswer, combineOutput, invertAnswer, invertOutput, thirdAnswer}
 use Rattle.coder_theory.specs.Demand1.{wordPlaces, messagePlaces, IsPlace, IsWord, IsMessage, HasRoom}
 use Rattle.coder_theory.specs.declared.Record.{Record}
 
@@ -22,12 +25,12 @@ use Rattle.coder_theory.specs.declared.Record.{Record}
 abbrev pub moduliOfCode : Record → List Modulus
 moduliOfCode rec = moduliFor (rec .t) (rec .r)
 
-abbrev pub written : Record → List ℕ → List ℕ
-written rec out = take (wordPlaces rec) out
+abbrev pub firstBytes : Record → List ℕ → List ℕ
+firstBytes rec out = take (wordPlaces rec) out
 
 -- a word with the s places in front that are fixed at 0
-abbrev pub whole : Record → List ℕ → List ℕ
-whole rec w = zeroWord (rec .s) ++ w
+abbrev pub filledIn : Record → List ℕ → List ℕ
+filledIn rec w = zeroWord (rec .s) ++ w
 
 -- ---- layout and syndrome
 -- "the layout tells the element number of one place a call": the numbers told of the places, in their order, are those of the layout's four
@@ -47,7 +50,7 @@ TellsOnce rec = (x : ℕ) → 0 < x → x ≤ placesOf (rec .t)
 pub record TellsSyndrome (rec : Record) : Type 0 where
   pub ones : (p : ℕ) → IsPlace rec p → syndromeAnswer rec (flip p (zeroWord (wordPlaces rec))) .element ≡ elementAnswer rec p .element
   pub sums : (x y out : List ℕ) → IsWord rec x → IsWord rec y → HasRoom rec out
-      → syndromeAnswer rec (written rec (combineOutput rec x y out)) .element
+      → syndromeAnswer rec (firstBytes rec (combineOutput rec x y out)) .element
       ≡ number (moduliOfCode rec) (sum (moduliOfCode rec) (element (moduliOfCode rec) (syndromeAnswer rec x .element)) (element (moduliOfCode rec) (syndromeAnswer rec y .element)))
   pub codewords : (w : List ℕ) → IsWord rec w → (syndromeAnswer rec w .element ≡ 0) ↔ CodewordIn rec w
 
@@ -55,31 +58,31 @@ pub record TellsSyndrome (rec : Record) : Type 0 where
 -- usable record of the same t, r and s
 pub record Encodes (rec : Record) (m out : List ℕ) : Type 0 where
   pub accepted : encodeAnswer rec m out ≡ record { refusal = 0; place = 0 }
-  pub codeword : CodewordIn rec (written rec (encodeOutput rec m out))
+  pub codeword : CodewordIn rec (firstBytes rec (encodeOutput rec m out))
   pub begins : take (messagePlaces rec) (encodeOutput rec m out) ≡ m
-  pub only : (c : List ℕ) → CodewordIn rec c → take (messagePlaces rec) c ≡ m → c ≡ written rec (encodeOutput rec m out)
+  pub only : (c : List ℕ) → CodewordIn rec c → take (messagePlaces rec) c ≡ m → c ≡ firstBytes rec (encodeOutput rec m out)
   pub further : drop (wordPlaces rec) (encodeOutput rec m out) ≡ drop (wordPlaces rec) out
-  pub shows : (other : Record) → RecordOf (rec .t) (rec .r) (rec .s) other → shown other (written rec (encodeOutput rec m out)) ≡ m
+  pub shows : (other : Record) → RecordOf (rec .t) (rec .r) (rec .s) other → shown other (firstBytes rec (encodeOutput rec m out)) ≡ m
 
 -- ---- "Combining adds binary places modulo 2 and pairs modulo 4." The same in either order, with any record of the code; a codeword where
 -- both are
 pub record Combines (rec : Record) (x y out : List ℕ) : Type 0 where
   pub accepted : combineAnswer rec x y out ≡ record { refusal = 0; place = 0 }
-  pub word : IsWord rec (written rec (combineOutput rec x y out))
-  pub adds : whole rec (written rec (combineOutput rec x y out)) ≡ words.combine (slots (moduliOfCode rec)) (whole rec x) (whole rec y)
+  pub word : IsWord rec (firstBytes rec (combineOutput rec x y out))
+  pub adds : filledIn rec (firstBytes rec (combineOutput rec x y out)) ≡ words.combine (slots (moduliOfCode rec)) (filledIn rec x) (filledIn rec y)
   pub either : (other : Record) → RecordOf (rec .t) (rec .r) (rec .s) other → (o : List ℕ) → HasRoom rec o
-      → written rec (combineOutput other y x o) ≡ written rec (combineOutput rec x y out)
-  pub codeword : CodewordIn rec x → CodewordIn rec y → CodewordIn rec (written rec (combineOutput rec x y out))
+      → firstBytes rec (combineOutput other y x o) ≡ firstBytes rec (combineOutput rec x y out)
+  pub codeword : CodewordIn rec x → CodewordIn rec y → CodewordIn rec (firstBytes rec (combineOutput rec x y out))
   pub further : drop (wordPlaces rec) (combineOutput rec x y out) ≡ drop (wordPlaces rec) out
 
 -- ---- "The inverse swaps the two places of each pair.": the word that makes the zero word when w is combined with it, with any record of the
 -- code
 pub record Inverts (rec : Record) (w out : List ℕ) : Type 0 where
   pub accepted : invertAnswer rec w out ≡ record { refusal = 0; place = 0 }
-  pub word : IsWord rec (written rec (invertOutput rec w out))
-  pub swaps : whole rec (written rec (invertOutput rec w out)) ≡ words.inverse (slots (moduliOfCode rec)) (whole rec w)
+  pub word : IsWord rec (firstBytes rec (invertOutput rec w out))
+  pub swaps : filledIn rec (firstBytes rec (invertOutput rec w out)) ≡ words.inverse (slots (moduliOfCode rec)) (filledIn rec w)
   pub makesZero : (other : Record) → RecordOf (rec .t) (rec .r) (rec .s) other → (o : List ℕ) → HasRoom rec o
-      → written rec (combineOutput other w (written rec (invertOutput rec w out)) o) ≡ zeroWord (wordPlaces rec)
+      → firstBytes rec (combineOutput other w (firstBytes rec (invertOutput rec w out)) o) ≡ zeroWord (wordPlaces rec)
   pub further : drop (wordPlaces rec) (invertOutput rec w out) ≡ drop (wordPlaces rec) out
 
 -- ---- "Third place: for places i and j, the one place that makes a codeword of weight 3 with them.": the call tells k exactly where k does, and
@@ -89,9 +92,25 @@ pub record Thirds (rec : Record) (i j : ℕ) : Type 0 where
   pub none : (thirdAnswer rec i j .refusal ≡ 11) ↔ ((k : ℕ) → ThreeIn rec i j k → ⊥)
   pub one : rec .s ≡ 0 → ThreeIn rec i j (thirdAnswer rec i j .place)
 
--- ---- "A longer one keeps its further bytes": what correction leaves behind the n − s bytes that it writes, of which demand 3 speaks
-abbrev pub CorrectsWithin : Record → List ℕ → List ℕ → Type 0
-CorrectsWithin rec w out = drop (wordPlaces rec) (correctOutput rec w out) ≡ drop (wordPlaces rec) out
+-- ---- correction: the place p that it tells and the n − s bytes that it writes are demand 3's. "A longer one keeps its further bytes"; and in
+-- every usable record "Each accepted correction adds one to words and to one of the other three", by the place
+pub record CorrectsIn (rec : Record) (w out : List ℕ) : Type 0 where
+  pub further : drop (wordPlaces rec) (correctOutput rec w out) ≡ drop (wordPlaces rec) out
+  pub adds : correctAnswer rec w out .refusal ≡ 0
+      → let p = correctAnswer rec w out .place in
+      correctAnswer rec w out .«record»
+      ≡ record {
+        t = rec .t;
+        r = rec .r;
+        s = rec .s;
+        words = rec .words + 1;
+        clean = rec .clean + oneIf (eqb p 0);
+        «corrected_binary» = rec .«corrected_binary» + oneIf (isShortenedBinary (moduliOfCode rec) (rec .s) p);
+        «corrected_pairs» = rec .«corrected_pairs» + oneIf (isShortenedPaired (moduliOfCode rec) (rec .s) p);
+      }
+  pub one : correctAnswer rec w out .refusal ≡ 0
+      → let p = correctAnswer rec w out .place in
+      oneIf (eqb p 0) + oneIf (isShortenedBinary (moduliOfCode rec) (rec .s) p) + oneIf (isShortenedPaired (moduliOfCode rec) (rec .s) p) ≡ 1
 
 -- ---- all of it
 pub record Demand2In (rec : Record) : Type 0 where
@@ -102,7 +121,7 @@ pub record Demand2In (rec : Record) : Type 0 where
   pub test : (w : List ℕ) → (codewordAnswer rec w .yes ≡ true) ↔ CodewordIn rec w
   pub reads : (w : List ℕ) → CodewordIn rec w → shown rec w ≡ take (messagePlaces rec) w
   pub encodes : (m out : List ℕ) → IsMessage rec m → HasRoom rec out → Encodes rec m out
-  pub corrects : (w out : List ℕ) → IsWord rec w → HasRoom rec out → CorrectsWithin rec w out
+  pub corrects : (w out : List ℕ) → IsWord rec w → HasRoom rec out → CorrectsIn rec w out
   pub combines : (x y out : List ℕ) → IsWord rec x → IsWord rec y → HasRoom rec out → Combines rec x y out
   pub inverts : (w out : List ℕ) → IsWord rec w → HasRoom rec out → Inverts rec w out
   pub thirds : (i j : ℕ) → IsPlace rec i → IsPlace rec j → i ≢ j → Thirds rec i j
@@ -116,15 +135,15 @@ pub record Shortens (rec all : Record) : Type 0 where
   pub places : wordLength rec ≡ wordPlaces rec
   pub message : messageLength rec ≡ messagePlaces rec
   pub elements : (p : ℕ) → IsPlace rec p → elementAnswer rec p ≡ elementAnswer all (p + rec .s)
-  pub syndromes : (w : List ℕ) → IsWord rec w → syndromeAnswer rec w ≡ syndromeAnswer all (whole rec w)
-  pub tests : (w : List ℕ) → IsWord rec w → codewordAnswer rec w ≡ codewordAnswer all (whole rec w)
+  pub syndromes : (w : List ℕ) → IsWord rec w → syndromeAnswer rec w ≡ syndromeAnswer all (filledIn rec w)
+  pub tests : (w : List ℕ) → IsWord rec w → codewordAnswer rec w ≡ codewordAnswer all (filledIn rec w)
   -- what is written into the first bytes of an output; the outputs are long enough, whatever they hold
   pub encodes : (m out v : List ℕ) → IsMessage rec m → HasRoom rec out → placesOf (rec .t) ≤ length v
-      → whole rec (written rec (encodeOutput rec m out)) ≡ take (placesOf (rec .t)) (encodeOutput all (whole rec m) v)
+      → filledIn rec (firstBytes rec (encodeOutput rec m out)) ≡ take (placesOf (rec .t)) (encodeOutput all (filledIn rec m) v)
   pub combines : (x y out v : List ℕ) → IsWord rec x → IsWord rec y → HasRoom rec out → placesOf (rec .t) ≤ length v
-      → whole rec (written rec (combineOutput rec x y out)) ≡ take (placesOf (rec .t)) (combineOutput all (whole rec x) (whole rec y) v)
+      → filledIn rec (firstBytes rec (combineOutput rec x y out)) ≡ take (placesOf (rec .t)) (combineOutput all (filledIn rec x) (filledIn rec y) v)
   pub inverts : (w out v : List ℕ) → IsWord rec w → HasRoom rec out → placesOf (rec .t) ≤ length v
-      → whole rec (written rec (invertOutput rec w out)) ≡ take (placesOf (rec .t)) (invertOutput all (whole rec w) v)
+      → filledIn rec (firstBytes rec (invertOutput rec w out)) ≡ take (placesOf (rec .t)) (invertOutput all (filledIn rec w) v)
 
 abbrev pub Shortening : Type 0
 Shortening = (rec all : Record) → Usable rec → RecordOf (rec .t) (rec .r) 0 all → Shortens rec all

@@ -1,6 +1,5 @@
 -- Document 01, "Turned back because of the input" and "because of the state", and request C-17 (10, 11): each reason with its number and
--- whether it applies.
--- Assumes nothing.
+-- whether it applies. Assumes nothing.
 use mathlib.Core.Bool.{Bool, true, false, _||_, not}
 use mathlib.Core.List.{List, [], _∷_}
 use Prim.Native.Nat.{ℕ, suc}

@@ -1,5 +1,5 @@
--- What the theorem on the group says, for every list of moduli: `group-laws : (ms : List Modulus) → GroupLaws ms` (proofs/Theorem). "The coder
--- relies on its stated laws, never on how it adds." (document 01). Assumes nothing.
+-- What the theorems on the group say: `group-laws : Groups` (proofs/Theorem), for every list of moduli, and `size-moduli : Sizes`
+-- (proofs/Numbers). "The coder relies on its stated laws, never on how it adds." (document 01). Assumes nothing.
 use mathlib.Core.Path.{_≡_}
 use mathlib.Core.Logic.{_≢_, _↔_}
 use mathlib.Core.List.{List}

@@ -9,7 +9,7 @@ use Rattle.group_theory.specs.Group.{zeros, number}
 use Rattle.group_theory.proofs.Numbers.{number-zeros}
 use Rattle.layout_theory.specs.Parameters.{Admitted, placesOf, moduliFor}
 use Rattle.layout_theory.specs.Layout.{from, slots, places, elementAt}
-use Rattle.layout_theory.specs.Claims.{numbers}
+use Rattle.layout_theory.specs.Claims.{layoutNumbers}
 use Rattle.layout_theory.proofs.Printed.{printed}
 use Rattle.shortened_theory.proofs.Whole.{element-zero}
 use Rattle.coder_theory.specs.State.{fresh, placesIn, elementIn}
@@ -53,15 +53,15 @@ all-refused = refl
 -- ---- the document's sheet
 -- what the call tells of a place is its number in the layout, and document 01 prints those numbers for (3,2) (`printed`)
 told : (t r i : ℕ) → Admitted t r → suc i ≤ placesOf t
-    → elementAnswer (fresh t r 0) (suc i) .element ≡ getD (numbers t r) i 0
-unfolding placesIn elementIn elementAt numbers
+    → elementAnswer (fresh t r 0) (suc i) .element ≡ getD (layoutNumbers t r) i 0
+unfolding placesIn elementIn elementAt layoutNumbers
 told t r i ok h =
     let ms = moduliFor t r in
     ap (λ (x : ElementAnswer). x .element)
     (tells (fresh t r 0) (suc i) (zero-usable (fresh t r 0) (fresh-fit t r 0 ok) refl) (omega arith) (omega arith))
     ∙ ap (number ms) (element-zero ms (suc i))
     ∙ sym (List·getD-map (number ms) (places ms (slots ms)) i (zeros ms))
-    ∙ ap (getD (numbers t r) i) (number-zeros ms)
+    ∙ ap (getD (layoutNumbers t r) i) (number-zeros ms)
 
 admitted : Admitted 3 2
 admitted = record { least = omega arith; most = omega arith; binary = omega arith; within = omega arith; twice = omega arith }

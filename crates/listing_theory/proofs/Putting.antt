@@ -65,9 +65,10 @@ over (b ∷ s) (c ∷ o) = sets-later b o 0 s ∙ ap (λ (r : List ℕ). b ∷ r
 pub puts-whole : {o o' s : List ℕ} {n : ℕ} → Puts o 0 s o' n → (n ≡ length s) × (o' ≡ overwrite s o)
 puts-whole {o} {o'} {s} p = (omega (arith, p .next), p .bytes ∙ over s o)
 
--- in a buffer that is long enough the whole text stands, and what follows it is as it was
-pub whole-fits : (s o : List ℕ) → length s ≤ length o → overwrite s o ≡ s ++ drop (length s) o
+-- as much of a text as fits, and of a longer buffer what follows it as it was
+pub overwritten : (s o : List ℕ) → overwrite s o ≡ take (length o) s ++ drop (length s) o
 unfolding overwrite
-whole-fits [] o h = refl
-whole-fits (b ∷ s) [] h = absurd (let z : ⊥ = omega arith in z)
-whole-fits (b ∷ s) (c ∷ o) h = ap (λ (r : List ℕ). b ∷ r) (whole-fits s o (omega arith))
+overwritten [] [] = refl
+overwritten [] (c ∷ o) = refl
+overwritten (b ∷ s) [] = refl
+overwritten (b ∷ s) (c ∷ o) = ap (λ (r : List ℕ). b ∷ r) (overwritten s o)

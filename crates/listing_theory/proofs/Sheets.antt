@@ -1,4 +1,4 @@
--- The theorem on the sheet, `sheet-of`: which bytes are printed for which input. Its statement is in specs/Claims. Assumes nothing.
+-- The theorem on the sheet, `sheet-of`: which text an input gives, and what of it stands in a buffer. Its statement is in specs/Claims. Assumes nothing.
 use mathlib.Core.Path.{_≡_, refl, sym, ap, _∙_}
 use mathlib.Core.Bool.{Bool, true, false}
 use mathlib.Core.List.{List}
@@ -18,6 +18,7 @@ use Rattle.listing_theory.specs.declared.Line.{Line}
 use Rattle.listing_theory.specs.declared.Line.the-variants.{Read, Malformed}
 use Rattle.listing_theory.proofs.Forms.{spelt-is-read, spells}
 use Rattle.listing_theory.proofs.Lengths.{sheet-fits}
+use Rattle.listing_theory.proofs.Putting.{overwritten}
 use Rattle.listing_theory.proofs.Wholes.{line-seven, line-one, listing-written}
 
 -- the texts differ, at index 0 or 8
@@ -67,6 +68,7 @@ sheet-of input =
       notAdmitted = (spelt-one input _ refl, λ w. of-not-admitted input (w .0) (w .1) (w .2) _ refl (w .3));
       listed = of-admitted input;
       fits = sheet-fits input;
+      written = overwritten (sheetText input);
     }
 
 -- for who calls `listing::sheet`: the length that it answers

@@ -1,18 +1,19 @@
--- What the theorems on the sheet say, of its bytes. Of specs/Sheet and specs/Form only `sheetText` is named: the texts are written out here a
+-- What the theorems on the sheet say, of its bytes. Of specs/Sheet and specs/Form only `sheetText` and `overwrite`, which the contract of
+-- `listing::sheet` names, are named: the texts are written out here a
 -- second time, so that a change of both the code and its definitions is still refused. 32 is a space, 10 a newline, 48 to 57 are the digits
 -- 0 to 9. Assumes nothing.
 use mathlib.Core.Path.{_≡_}
 use mathlib.Core.Logic.{_↔_}
 use mathlib.Core.List.{List, [], _∷_, _++_, flatMap}
 use Prim.Native.Nat.{ℕ, _^_, _<_, _≤_}
-use lib.ListN.{length}
+use lib.ListN.{length, take, drop}
 use Rattle.layout_theory.specs.Parameters.{Admitted, placesOf, messageOf}
 use Rattle.layout_theory.specs.Layout.{from}
 use Rattle.coder_theory.specs.State.{fresh}
 use Rattle.coder_theory.specs.Calls.{inForce, elementAnswer}
 use Rattle.listing_theory.specs.Decimal.{decimal, value}
 use Rattle.listing_theory.specs.Spelling.{Digits, Spells}
-use Rattle.listing_theory.specs.Sheet.{sheetText}
+use Rattle.listing_theory.specs.Sheet.{sheetText, overwrite}
 
 -- "A refusal prints one line: `refused`, one space, the number.": with the number 7, and with 1
 abbrev pub refused7 : List ℕ
@@ -47,6 +48,8 @@ pub record SheetOf (input : List ℕ) : Type 0 where
   pub notAdmitted : (sheetText input ≡ refused1) ↔ ((t : ℕ) × (r : ℕ) × Spells input t r × (Admitted t (inForce t r) → ⊥))
   pub listed : (t r : ℕ) → Spells input t r → Admitted t (inForce t r) → sheetText input ≡ wholeSheet t (inForce t r)
   pub fits : length (sheetText input) ≤ bufferLength
+  -- what `listing::sheet` leaves in a buffer: as much of the text as fits, and of a longer buffer the further bytes as they were
+  pub written : (out : List ℕ) → overwrite (sheetText input) out ≡ take (length out) (sheetText input) ++ drop (length (sheetText input)) out
 
 abbrev pub Sheets : Type 0
 Sheets = (input : List ℕ) → SheetOf input

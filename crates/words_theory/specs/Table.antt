@@ -10,33 +10,33 @@ use Rattle.words_theory.specs.Words.{combine}
 use Rattle.words_theory.specs.Syndrome.{syndrome}
 use Rattle.words_theory.specs.Coding.{encode, corrected, correctedPlace, third}
 
-abbrev pub code : List Modulus
-code = moduliFor 3 2
+abbrev pub code32 : List Modulus
+code32 = moduliFor 3 2
 
-abbrev pub both : List ℕ → List ℕ → List ℕ
-both = combine (slots code)
+abbrev pub combined : List ℕ → List ℕ → List ℕ
+combined = combine (slots code32)
 
 abbrev pub word : ℕ → ℕ → ℕ → ℕ → ℕ → ℕ → ℕ → List ℕ
 word a b c d e f g = a ∷ b ∷ c ∷ d ∷ e ∷ f ∷ g ∷ []
 
 abbrev pub Table : Type 0
 Table =
-    (encode code (0 ∷ 0 ∷ 0 ∷ 0 ∷ []) ≡ word 0 0 0 0 0 0 0)
-    × (encode code (1 ∷ 0 ∷ 0 ∷ 0 ∷ []) ≡ word 1 0 0 0 0 1 1)
-    × (encode code (0 ∷ 1 ∷ 0 ∷ 0 ∷ []) ≡ word 0 1 0 0 1 1 1)
-    × (encode code (0 ∷ 0 ∷ 1 ∷ 0 ∷ []) ≡ word 0 0 1 0 1 0 1)
-    × (encode code (0 ∷ 0 ∷ 0 ∷ 1 ∷ []) ≡ word 0 0 0 1 1 1 0)
-    × (encode code (1 ∷ 1 ∷ 1 ∷ 1 ∷ []) ≡ word 1 1 1 1 1 1 1)
-    × (number code (syndrome code (word 0 0 1 1 1 1 0)) ≡ 3)
-    × (correctedPlace code (word 0 0 1 1 1 1 0) ≡ 3)
-    × (corrected code (word 0 0 1 1 1 1 0) ≡ word 0 0 0 1 1 1 0)
-    × (number code (syndrome code (word 0 0 0 0 0 1 1)) ≡ 4)
-    × (correctedPlace code (word 0 0 0 0 0 1 1) ≡ 1)
-    × (corrected code (word 0 0 0 0 0 1 1) ≡ word 1 0 0 0 0 1 1)
-    × (corrected code (word 0 0 0 0 0 0 1) ≡ word 0 0 0 0 0 0 0)
-    × (correctedPlace code (word 0 0 0 0 0 0 1) ≡ 7)
-    × (both (word 0 0 0 1 1 1 0) (word 0 0 1 0 1 0 1) ≡ word 0 0 0 0 0 0 0)
-    × (both (word 0 0 0 1 1 1 0) (word 0 0 0 1 1 1 0) ≡ word 0 0 1 1 0 1 1)
-    × (third code 1 2 ≡ 5)
-    × (third code 3 6 ≡ 2)
-    × (third code 3 5 ≡ 7)
+    (encode code32 (0 ∷ 0 ∷ 0 ∷ 0 ∷ []) ≡ word 0 0 0 0 0 0 0)
+    × (encode code32 (1 ∷ 0 ∷ 0 ∷ 0 ∷ []) ≡ word 1 0 0 0 0 1 1)
+    × (encode code32 (0 ∷ 1 ∷ 0 ∷ 0 ∷ []) ≡ word 0 1 0 0 1 1 1)
+    × (encode code32 (0 ∷ 0 ∷ 1 ∷ 0 ∷ []) ≡ word 0 0 1 0 1 0 1)
+    × (encode code32 (0 ∷ 0 ∷ 0 ∷ 1 ∷ []) ≡ word 0 0 0 1 1 1 0)
+    × (encode code32 (1 ∷ 1 ∷ 1 ∷ 1 ∷ []) ≡ word 1 1 1 1 1 1 1)
+    × (number code32 (syndrome code32 (word 0 0 1 1 1 1 0)) ≡ 3)
+    × (correctedPlace code32 (word 0 0 1 1 1 1 0) ≡ 3)
+    × (corrected code32 (word 0 0 1 1 1 1 0) ≡ word 0 0 0 1 1 1 0)
+    × (number code32 (syndrome code32 (word 0 0 0 0 0 1 1)) ≡ 4)
+    × (correctedPlace code32 (word 0 0 0 0 0 1 1) ≡ 1)
+    × (corrected code32 (word 0 0 0 0 0 1 1) ≡ word 1 0 0 0 0 1 1)
+    × (corrected code32 (word 0 0 0 0 0 0 1) ≡ word 0 0 0 0 0 0 0)
+    × (correctedPlace code32 (word 0 0 0 0 0 0 1) ≡ 7)
+    × (combined (word 0 0 0 1 1 1 0) (word 0 0 1 0 1 0 1) ≡ word 0 0 0 0 0 0 0)
+    × (combined (word 0 0 0 1 1 1 0) (word 0 0 0 1 1 1 0) ≡ word 0 0 1 1 0 1 1)
+    × (third code32 1 2 ≡ 5)
+    × (third code32 3 6 ≡ 2)
+    × (third code32 3 5 ≡ 7)
