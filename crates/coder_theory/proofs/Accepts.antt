@@ -10,13 +10,13 @@ use lib.Dec.{eqb}
 use lib.ListN.{length}
 use Rattle.words_theory.specs.Words.{Word}
 use Rattle.shortened_theory.specs.Code.{shortenedCorrected}
-use Rattle.coder_theory.specs.State.{Usable, moduliIn, placesIn, messageIn, correctedOldPlaceIn, FallsOut, ThreeIn, fullCount, counted}
+use Rattle.coder_theory.specs.State.{Usable, moduliIn, placesIn, messageIn, correctedOldPlaceIn, FallsOut, fullCount, counted}
 use Rattle.coder_theory.specs.Reasons.{wrongLength, badByte, badPlace}
 use Rattle.coder_theory.specs.Calls.{layoutReasons, wordReasons, syndromeAnswer, codewordAnswer, encodeReasons, encodeAnswer, correctAnswer}
 use Rattle.coder_theory.specs.Calls.{combineReasons, combineAnswer, invertReasons, invertAnswer, thirdReasons, thirdAnswer}
 use Rattle.coder_theory.specs.Demand2.{Thirds}
 use Rattle.coder_theory.specs.Demand3Shortened.{HasNear}
-use Rattle.coder_theory.specs.Demand1.{IsPlace, IsWord, HasRoom, AcceptsIn}
+use Rattle.coder_theory.specs.Demand1.{ThreeIn, IsPlace, IsWord, HasRoom, AcceptsIn}
 use Rattle.coder_theory.specs.declared.Record.{Record}
 use Rattle.coder_theory.specs.declared.Answer.{Answer}
 use Rattle.coder_theory.specs.declared.ElementAnswer.{ElementAnswer}

@@ -17,7 +17,8 @@ use Rattle.words_theory.proofs.Reading.{valid-syndrome}
 use Rattle.words_theory.proofs.Theorem.{length-code}
 use Rattle.shortened_theory.specs.Code.{fill}
 use Rattle.shortened_theory.proofs.Filling.{fill-word}
-use Rattle.coder_theory.specs.State.{Usable, moduliIn, placesIn, CodewordIn, isCodewordIn}
+use Rattle.coder_theory.specs.State.{Usable, moduliIn, placesIn, isCodewordIn}
+use Rattle.coder_theory.specs.Demand1.{CodewordIn}
 use Rattle.coder_theory.specs.Reasons.{badPlace}
 use Rattle.coder_theory.specs.Calls.{wordReasons, codewordAnswer, shown}
 use Rattle.coder_theory.specs.declared.Record.{Record}

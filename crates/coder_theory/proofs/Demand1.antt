@@ -6,10 +6,10 @@ use mathlib.Core.Bool.{Bool, true, false}
 use Prim.Native.Nat.{ℕ, zero, suc}
 use Rattle.layout_theory.proofs.Parameters.{admits-admitted, admitted-admits}
 use Rattle.shortened_theory.proofs.Between.{allows-allowed, allowed-allows}
-use Rattle.coder_theory.specs.State.{Usable, CodewordIn}
+use Rattle.coder_theory.specs.State.{Usable}
 use Rattle.coder_theory.specs.Reasons.{notAdmitted, notAllowed, firstReason}
 use Rattle.coder_theory.specs.Calls.{inForce, openReasons, opened, stateReasons, ifUsable, wordLength, messageLength, codewordAnswer, shown}
-use Rattle.coder_theory.specs.Demand1.{RefusalGives, OpensWith, Demand1}
+use Rattle.coder_theory.specs.Demand1.{CodewordIn, RefusalGives, OpensWith, Demand1}
 use Rattle.coder_theory.specs.declared.Record.{Record}
 use Rattle.coder_theory.specs.declared.Opened.{Opened}
 use Rattle.coder_theory.proofs.Rows.{done, row, by-first}

@@ -16,9 +16,9 @@ use Rattle.words_theory.proofs.Thirds.{zero-word}
 use Rattle.words_theory.proofs.Theorem.{length-code}
 use Rattle.shortened_theory.specs.Code.{fill, oldPlace, shortenedSyndrome}
 use Rattle.shortened_theory.proofs.Filling.{fill-word, fill-zero, flip-fill}
-use Rattle.coder_theory.specs.State.{Usable, FallsOut, counted, isBinaryIn, isPairedIn, correctedIn, correctedOldPlaceIn, moduliIn, placesIn, messageIn, elementIn, syndromeIn, numberIn, CodewordIn}
+use Rattle.coder_theory.specs.State.{Usable, FallsOut, counted, isBinaryIn, isPairedIn, correctedIn, correctedOldPlaceIn, moduliIn, placesIn, messageIn, elementIn, syndromeIn, numberIn}
 use Rattle.coder_theory.specs.Calls.{elementAnswer, syndromeAnswer, correctAnswer, correctOutput, combineOutput}
-use Rattle.coder_theory.specs.Demand1.{wordPlaces, IsWord, HasRoom}
+use Rattle.coder_theory.specs.Demand1.{CodewordIn, wordPlaces, IsWord, HasRoom}
 use Rattle.coder_theory.specs.Demand2.{firstBytes, TellsSyndrome, CorrectsIn, Demand2}
 use Rattle.coder_theory.specs.declared.Record.{Record}
 use Rattle.coder_theory.specs.declared.ElementAnswer.{ElementAnswer}

@@ -1,6 +1,6 @@
 -- Demand 3, one theorem on the calls: `demand3`. Its statement is in specs/Demand3. It is the sister for shortened codes at s = 0, where every
 -- word has a codeword within one place. Assumes nothing.
-use mathlib.Core.Path.{_≡_, sym, ap, subst, _∙_}
+use mathlib.Core.Path.{_≡_, refl, sym, ap, subst, _∙_}
 use mathlib.Core.List.{List}
 use Prim.Native.Nat.{ℕ, _-_, _≤_}
 use native.Mathlib.Omega.{arith}
@@ -17,7 +17,7 @@ use Rattle.words_theory.proofs.Theorem.{code}
 use Rattle.shortened_theory.specs.Code.{oldPlace, shortenedOtherHalf}
 use Rattle.shortened_theory.proofs.Between.{zero-allowed}
 use Rattle.shortened_theory.proofs.Whole.{old-zero, new-zero, other-zero}
-use Rattle.coder_theory.specs.Demand3.{OwnRecord, AcceptsMessage, encodedBy, MovedBy, AtWord, Demand3, OpenedOwn}
+use Rattle.coder_theory.specs.Demand3.{OwnRecord, AcceptsMessage, encodedBy, MovedBy, AtWord, Demand3, AnyRecord, OpenedOwn}
 use Rattle.coder_theory.specs.Demand3Shortened.{MovedShortened, OfNear, AtShortenedWord}
 use Rattle.coder_theory.proofs.Demand3Shortened.{demand3-shortened, opened-shortened}
 
@@ -86,6 +86,9 @@ module _ (t r : ℕ) (ok : Admitted t r) where
 
 pub demand3 : Demand3
 demand3 t r ok w h = at-word t r ok w h
+
+pub any-record : AnyRecord
+any-record rec h e = record { isT = refl; isR = refl; isS = refl; fit = record { admitted = h; sums = e } }
 
 pub opened-own : OpenedOwn
 opened-own t r h out l = opened-shortened t r 0 h (zero-allowed t r h) out (omega arith)

@@ -9,7 +9,8 @@ use Rattle.layout_theory.specs.Parameters.{messageOf}
 use Rattle.words_theory.specs.Words.{Word}
 use Rattle.words_theory.proofs.Theorem.{length-message-code}
 use Rattle.shortened_theory.specs.Claims.{ShortenedEncodingOf}
-use Rattle.coder_theory.specs.State.{Usable, RecordOf, moduliIn, placesIn, messageIn, CodewordIn, encodedIn}
+use Rattle.coder_theory.specs.State.{Usable, RecordOf, moduliIn, placesIn, messageIn, encodedIn}
+use Rattle.coder_theory.specs.Demand1.{CodewordIn}
 use Rattle.coder_theory.specs.Calls.{encodeOutput, shown}
 use Rattle.coder_theory.specs.Demand2.{Encodes}
 use Rattle.coder_theory.specs.declared.Record.{Record}

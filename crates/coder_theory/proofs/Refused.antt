@@ -7,12 +7,12 @@ use Prim.Native.Nat.{ℕ}
 use native.Mathlib.Omega.{arith}
 use lib.ListN.{length}
 use Rattle.shortened_theory.specs.Allowed.{Allowed}
-use Rattle.coder_theory.specs.State.{Usable, placesIn, messageIn, correctedOldPlaceIn, thirdOldPlaceIn, ThirdFallsOut, ThreeIn}
+use Rattle.coder_theory.specs.State.{Usable, placesIn, messageIn, correctedOldPlaceIn, thirdOldPlaceIn, ThirdFallsOut}
 use Rattle.coder_theory.specs.Reasons.{Reason, closed, unfit, notAllowed, wrongLength, shortOutput, badByte, outside, equalPlaces, leftOut, full}
 use Rattle.coder_theory.specs.Calls.{stateReasons, layoutReasons, wordReasons, syndromeAnswer, codewordAnswer, writeReasons, encodeReasons, encodeAnswer}
 use Rattle.coder_theory.specs.Calls.{correctReasons, correctAnswer, combineReasons, combineAnswer, invertReasons, invertAnswer, thirdReasons, thirdAnswer}
 use Rattle.coder_theory.specs.Demand3Shortened.{HasNear}
-use Rattle.coder_theory.specs.Demand1.{wordPlaces, Unfit, Short, NotBits, Outside, stateRows, writeRows, IsPlace, IsWord, RefusedIn}
+use Rattle.coder_theory.specs.Demand1.{ThreeIn, wordPlaces, Unfit, Short, NotBits, Outside, stateRows, writeRows, IsPlace, IsWord, RefusedIn}
 use Rattle.coder_theory.specs.declared.Record.{Record}
 use Rattle.coder_theory.specs.declared.Answer.{Answer}
 use Rattle.coder_theory.proofs.Rows.{Rowed, done, row, two, by-first}

@@ -1,7 +1,8 @@
 -- Request C-17: what the calls on a usable record tell and write, beside what they do with s = 0: `shortens`. Its statement is in
 -- specs/Demand2. Assumes nothing.
 use mathlib.Core.Path.{_≡_, refl, sym, ap, ap₂, subst, _∙_}
-use mathlib.Core.Bool.{Bool}
+use mathlib.Core.Logic.{_≢_}
+use mathlib.Core.Bool.{Bool, true, false}
 use mathlib.Core.List.{List}
 use Prim.Native.Nat.{ℕ, _+_, _-_, _≤_, _<_}
 use native.Mathlib.Omega.{arith}
@@ -11,25 +12,45 @@ use Rattle.layout_theory.specs.Parameters.{placesOf, messageOf, moduliFor}
 use Rattle.layout_theory.specs.Layout.{elementAt}
 use Rattle.words_theory.specs.Words.{Word}
 use Rattle.words_theory.specs.Syndrome.{lengthOf}
+use Rattle.words_theory.specs.Coding as coding
 use Rattle.words_theory.proofs.Theorem.{length-code, length-message-code}
 use Rattle.shortened_theory.specs.Allowed.{Allowed}
-use Rattle.shortened_theory.specs.Code.{fill, shortenedElementAt, shortenedSyndrome, isShortenedCodeword}
+use Rattle.shortened_theory.specs.Code.{fill, oldPlace, LeftOut, isLeftOut, correctedOldPlace, thirdOldPlace, shortenedThird, shortenedElementAt, shortenedSyndrome, isShortenedCodeword}
 use Rattle.shortened_theory.specs.Claims.{ShortenedOf}
-use Rattle.shortened_theory.proofs.Filling.{old-sum, word-fill, fill-word}
+use Rattle.shortened_theory.proofs.Filling.{old-sum, old-new, word-fill, fill-word}
 use Rattle.shortened_theory.proofs.Encodings.{fill-encode}
 use Rattle.shortened_theory.proofs.Between.{zero-allowed}
 use Rattle.shortened_theory.proofs.Theorem.{shortened-code}
-use Rattle.shortened_theory.proofs.Whole.{new-zero, element-zero, encode-zero, combine-zero, inverse-zero}
-use Rattle.coder_theory.specs.State.{Usable, RecordOf, moduliIn, placesIn, messageIn, elementIn, syndromeIn, numberIn, isCodewordIn}
-use Rattle.coder_theory.specs.Calls.{wordLength, messageLength, elementAnswer, syndromeAnswer, codewordAnswer, encodeOutput, combineOutput, invertOutput}
-use Rattle.coder_theory.specs.Demand2.{Shortens, Shortening}
+use Rattle.shortened_theory.proofs.Whole.{new-zero, none-left, element-zero, place-zero, third-zero, encode-zero, combine-zero, inverse-zero}
+use Rattle.coder_theory.specs.State.{Usable, RecordOf, moduliIn, placesIn, messageIn, elementIn, syndromeIn, numberIn, isCodewordIn, thirdIn, thirdOldPlaceIn, fullCount}
+use Rattle.coder_theory.specs.Calls.{wordLength, messageLength, elementAnswer, syndromeAnswer, codewordAnswer, encodeOutput, correctAnswer, combineOutput, invertOutput, thirdAnswer}
+use Rattle.coder_theory.specs.Demand1.{IsPlace}
+use Rattle.coder_theory.specs.Demand2.{Falls, Shortens, Shortening}
 use Rattle.coder_theory.specs.Demand3.{OwnRecord}
 use Rattle.coder_theory.specs.declared.Record.{Record}
+use Rattle.coder_theory.specs.declared.Answer.{Answer}
+use Rattle.coder_theory.specs.declared.Corrected.{Corrected}
 use Rattle.coder_theory.proofs.States.{usable-true, zero-usable, code-in}
 use Rattle.coder_theory.proofs.Answers.{usable-length}
 use Rattle.coder_theory.proofs.Refusals.{tells}
-use Rattle.coder_theory.proofs.Accepted.{syndrome-accepts, codeword-accepts}
-use Rattle.coder_theory.proofs.Does.{encode-does, combine-does, invert-does}
+use Rattle.coder_theory.proofs.Corrections.{left-true, left-false, nearest-in}
+use Rattle.coder_theory.proofs.Accepted.{syndrome-accepts, codeword-accepts, third-accepts, third-left}
+use Rattle.coder_theory.proofs.Does.{encode-does, combine-does, invert-does, correct-does, left-does}
+
+-- ---- a place that falls in a left-out place, and one that does not
+falls-out : (s x p q : ℕ) → LeftOut s q → x ≡ 11 → Falls s x p q
+falls-out s x p q l e = record {
+  left = ((λ z. l), λ z. e);
+  none = λ z. absurd (omega arith);
+  kept = λ z. absurd (omega arith);
+}
+
+stays-in : (s x p q : ℕ) → (LeftOut s q → ⊥) → x ≡ 0 → oldPlace s p ≡ q → Falls s x p q
+stays-in s x p q never e r = record {
+  left = ((λ z. absurd (omega arith)), λ l. absurd (never l));
+  none = λ z h. sym r ∙ ap (oldPlace s) h;
+  kept = λ z h. sym r ∙ old-sum s p (λ n. omega arith);
+}
 
 module _ (rec whole : Record) (f : Usable rec) (c : RecordOf (rec .t) (rec .r) 0 whole) where
   abbrev ms : List Modulus
@@ -160,6 +181,72 @@ module _ (rec whole : Record) (f : Usable rec) (c : RecordOf (rec .t) (rec .r) 0
       ∙ sym (invert-does none (own-whole v l′) (fill (rec .s) w) (less g) (by-n (entire .groups .inverts (fill (rec .s) w) e .0)))
       ∙ all (invertOutput whole (fill (rec .s) w) v)
 
+  -- ---- correction: the place of the whole code is the one before renumbering
+  old : List ℕ → ℕ
+  old w = correctedOldPlace ms (rec .s) w
+
+  whole-place : (w v : List ℕ) → Word k w → n ≤ length v → whole .words ≢ fullCount → correctAnswer whole (fill (rec .s) w) v .place ≡ old w
+  unfolding old correctedOldPlace
+  whole-place w v h l u =
+      let g = less (word-fill n (rec .s) few h) in
+      let q = entire .nearest (fill (rec .s) w) g .codeword (none-left _) in
+      correct-does none (own-whole v l) (fill (rec .s) w) u (none-left _) g (by-n (less (q .isWord))) .2
+      ∙ place-zero ms (fill (rec .s) w)
+
+  corrects : (w out v : List ℕ) → Word k w → k ≤ length out → n ≤ length v → rec .words ≢ fullCount → whole .words ≢ fullCount
+      → Falls (rec .s) (correctAnswer rec w out .refusal) (correctAnswer rec w out .place) (correctAnswer whole (fill (rec .s) w) v .place)
+  unfolding old placesIn
+  corrects w out v h l l′ u u′ =
+      subst (Falls (rec .s) (correctAnswer rec w out .refusal) (correctAnswer rec w out .place)) (sym (whole-place w v h l′ u′)) (go (isLeftOut (rec .s) (old w)) refl)
+    where
+      go : (b : Bool) → isLeftOut (rec .s) (old w) ≡ b → Falls (rec .s) (correctAnswer rec w out .refusal) (correctAnswer rec w out .place) (old w)
+      go true y =
+          let q = left-true (rec .s) (old w) y in
+          falls-out (rec .s) _ _ _ q (ap (λ (x : Corrected). x .refusal) (left-does (f .allowed) (own out l) w q h))
+      go false y =
+          let q = left-false (rec .s) (old w) y in
+          let m = nearest-in rec w f h in
+          let d = correct-does (f .allowed) (own out l) w u q h (by-t (fill-word (lengthOf ms) (rec .s) (m .codeword q .isWord))) in
+          stays-in (rec .s) _ _ _ q (d .0) (ap (oldPlace (rec .s)) (d .2) ∙ m .renumbered q)
+
+  -- ---- the third place likewise
+  module _ (i j : ℕ) (a : IsPlace rec i) (b : IsPlace rec j) (d : i ≢ j) where
+    abbrev third-old : ℕ
+    third-old = thirdOldPlace ms (rec .s) i j
+
+    further : {q : ℕ} → IsPlace rec q → (0 < q + rec .s) × (q + rec .s ≤ n)
+    further h = let st = few in (omega (arith, h .0), omega (arith, h .1))
+
+    apart : i + rec .s ≢ j + rec .s
+    apart z = d (omega arith)
+
+    as-old : shortenedThird ms 0 (i + rec .s) (j + rec .s) ≡ third-old
+    unfolding thirdOldPlace
+    as-old =
+        third-zero ms (i + rec .s) (j + rec .s)
+        ∙ ap₂ (coding.third ms) (sym (old-sum (rec .s) i (λ z. let h = a .0 in omega arith))) (sym (old-sum (rec .s) j (λ z. let h = b .0 in omega arith)))
+
+    whole-third : thirdAnswer whole (i + rec .s) (j + rec .s) .place ≡ third-old
+    unfolding thirdIn
+    whole-third =
+        let x = further a in
+        let y = further b in
+        ap (λ (z : Answer). z .place) (third-accepts whole (i + rec .s) (j + rec .s) u (x .0) (rw in-whole (x .1)) (y .0) (rw in-whole (y .1)) apart (λ z. none-left _ (subst (λ (s : ℕ). LeftOut s (thirdOldPlaceIn whole (i + rec .s) (j + rec .s))) (c .isS) z)))
+        ∙ at-zero (λ (m : List Modulus) (s : ℕ). shortenedThird m s (i + rec .s) (j + rec .s)) ∙ as-old
+
+    thirds : Falls (rec .s) (thirdAnswer rec i j .refusal) (thirdAnswer rec i j .place) (thirdAnswer whole (i + rec .s) (j + rec .s) .place)
+    unfolding placesIn thirdIn thirdOldPlaceIn shortenedThird
+    thirds = subst (Falls (rec .s) (thirdAnswer rec i j .refusal) (thirdAnswer rec i j .place)) (sym whole-third) (go (isLeftOut (rec .s) third-old) refl)
+      where
+        go : (y : Bool) → isLeftOut (rec .s) third-old ≡ y → Falls (rec .s) (thirdAnswer rec i j .refusal) (thirdAnswer rec i j .place) third-old
+        go true y =
+            let q = left-true (rec .s) third-old y in
+            falls-out (rec .s) _ _ _ q (ap (λ (x : Answer). x .refusal) (third-left rec i j f (a .0) (a .1) (b .0) (b .1) d q))
+        go false y =
+            let q = left-false (rec .s) third-old y in
+            let e = third-accepts rec i j f (a .0) (a .1) (b .0) (b .1) d q in
+            stays-in (rec .s) _ _ _ q (ap (λ (x : Answer). x .refusal) e) (ap (λ (x : Answer). oldPlace (rec .s) (x .place)) e ∙ old-new (rec .s) third-old q)
+
   all-of : Shortens rec whole
   unfolding wordLength messageLength placesIn messageIn
   all-of =
@@ -172,6 +259,8 @@ module _ (rec whole : Record) (f : Usable rec) (c : RecordOf (rec .t) (rec .r) 0
         encodes = encodes;
         combines = combines;
         inverts = inverts;
+        corrects = corrects;
+        thirds = thirds;
       }
 
 pub shortens : Shortening

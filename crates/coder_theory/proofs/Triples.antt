@@ -15,7 +15,8 @@ use Rattle.shortened_theory.specs.Allowed.{Allowed}
 use Rattle.shortened_theory.specs.Code.{fill, LeftOut, shortenedCombine, isLeftOut}
 use Rattle.shortened_theory.specs.Claims.{ShortenedGroupOf, ShortenedThirdOf}
 use Rattle.shortened_theory.proofs.Whole.{none-left}
-use Rattle.coder_theory.specs.State.{Usable, RecordOf, moduliIn, placesIn, CodewordIn, combineIn, inverseIn, thirdIn, thirdOldPlaceIn, ThreeIn, ThirdFallsOut}
+use Rattle.coder_theory.specs.State.{Usable, RecordOf, moduliIn, placesIn, combineIn, inverseIn, thirdIn, thirdOldPlaceIn, ThirdFallsOut}
+use Rattle.coder_theory.specs.Demand1.{CodewordIn, ThreeIn}
 use Rattle.coder_theory.specs.Calls.{combineOutput, invertOutput, thirdAnswer}
 use Rattle.coder_theory.specs.Demand2.{Combines, Inverts, Thirds}
 use Rattle.coder_theory.specs.declared.Record.{Record}

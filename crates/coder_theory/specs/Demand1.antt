@@ -10,10 +10,12 @@ use Prim.Native.Nat.{ℕ, _+_, _-_, _<_, _≤_}
 use lib.Dec.{eqb}
 use lib.ListN.{length}
 use Rattle.layout_theory.specs.Choice.{pick}
-use Rattle.layout_theory.specs.Parameters.{Admitted, placesOf, messageOf}
+use Rattle.layout_theory.specs.Parameters.{Admitted, placesOf, messageOf, moduliFor}
 use Rattle.words_theory.specs.Words.{Bits, Word, byteAt}
 use Rattle.shortened_theory.specs.Allowed.{Allowed}
-use Rattle.coder_theory.specs.State.{Usable, CodewordIn, ThreeIn}
+use Rattle.shortened_theory.specs.Code.{ShortenedCodeword}
+use Rattle.shortened_theory.specs.Claims.{ShortenedThreeAt}
+use Rattle.coder_theory.specs.State.{Usable}
 use Rattle.coder_theory.specs.Calls.{inForce, opened, elementAnswer, wordLength, messageLength, syndromeAnswer, codewordAnswer, shown, encodeAnswer, encodeOutput}
 use Rattle.coder_theory.specs.Calls.{correctAnswer, correctOutput, combineAnswer, combineOutput, invertAnswer, invertOutput, thirdAnswer}
 use Rattle.coder_theory.specs.Demand3Shortened.{HasNear}
@@ -50,6 +52,13 @@ wordPlaces rec = placesOf (rec .t) - rec .s
 
 abbrev pub messagePlaces : Record → ℕ
 messagePlaces rec = messageOf (rec .t) - rec .s
+
+-- w is a codeword of the record's code; k makes a codeword of weight 3 with i and j
+abbrev pub CodewordIn : Record → List ℕ → Type 0
+CodewordIn rec w = ShortenedCodeword (moduliFor (rec .t) (rec .r)) (rec .s) w
+
+abbrev pub ThreeIn : Record → ℕ → ℕ → ℕ → Type 0
+ThreeIn rec i j k = ShortenedThreeAt (moduliFor (rec .t) (rec .r)) (rec .s) i j k
 
 -- "22. The record has parameters that are not admitted, r = 0, or words that differ from the sum of the other counts as whole numbers."
 abbrev pub Unfit : Record → Type 0

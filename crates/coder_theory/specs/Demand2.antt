@@ -15,10 +15,10 @@ use Rattle.layout_theory.specs.Layout.{from, slots, places}
 use Rattle.words_theory.specs.Words.{zeroWord, flip}
 use Rattle.words_theory.specs.Words as words
 use Rattle.shortened_theory.specs.Code.{isShortenedBinary, isShortenedPaired}
-use Rattle.coder_theory.specs.State.{Usable, RecordOf, CodewordIn, ThreeIn}
+use Rattle.coder_theory.specs.State.{Usable, RecordOf}
 use Rattle.coder_theory.specs.Calls.{wordLength, messageLength, elementAnswer, syndromeAnswer, codewordAnswer, shown}
 use Rattle.coder_theory.specs.Calls.{encodeAnswer, encodeOutput, correctAnswer, correctOutput, combineAnswer, combineOutput, invertAnswer, invertOutput, thirdAnswer}
-use Rattle.coder_theory.specs.Demand1.{wordPlaces, messagePlaces, IsPlace, IsWord, IsMessage, HasRoom}
+use Rattle.coder_theory.specs.Demand1.{CodewordIn, ThreeIn, wordPlaces, messagePlaces, IsPlace, IsWord, IsMessage, HasRoom}
 use Rattle.coder_theory.specs.declared.Record.{Record}
 
 -- the moduli of the record's code; and an output's first n − s bytes, to which a call writes a word
@@ -129,6 +129,13 @@ pub record Demand2In (rec : Record) : Type 0 where
 abbrev pub Demand2 : Type 0
 Demand2 = (rec : Record) → Usable rec → Demand2In rec
 
+-- ---- "a correction or third place that would fall in a left-out place" (request C-17): of its refusal x and the place p that it tells, beside
+-- the place q that is told with s = 0. 11 is where q is one of the first s, and else p is q, renumbered
+pub record Falls (s x p q : ℕ) : Type 0 where
+  pub left : (x ≡ 11) ↔ ((0 < q) × (q ≤ s))
+  pub none : x ≡ 0 → p ≡ 0 → q ≡ 0
+  pub kept : x ≡ 0 → 0 < p → q ≡ p + s
+
 -- ---- request C-17: "the first s message places are fixed at 0 and left out, and places are renumbered from 1. Lengths become n − s and
 -- n − t − s": what the calls on a usable record tell and write, beside what they do with a record `all` of the same t and r whose s is 0
 pub record Shortens (rec all : Record) : Type 0 where
@@ -144,6 +151,10 @@ pub record Shortens (rec all : Record) : Type 0 where
       → filledIn rec (firstBytes rec (combineOutput rec x y out)) ≡ take (placesOf (rec .t)) (combineOutput all (filledIn rec x) (filledIn rec y) v)
   pub inverts : (w out v : List ℕ) → IsWord rec w → HasRoom rec out → placesOf (rec .t) ≤ length v
       → filledIn rec (firstBytes rec (invertOutput rec w out)) ≡ take (placesOf (rec .t)) (invertOutput all (filledIn rec w) v)
+  pub corrects : (w out v : List ℕ) → IsWord rec w → HasRoom rec out → placesOf (rec .t) ≤ length v → rec .words ≢ 4294967295 → all .words ≢ 4294967295
+      → Falls (rec .s) (correctAnswer rec w out .refusal) (correctAnswer rec w out .place) (correctAnswer all (filledIn rec w) v .place)
+  pub thirds : (i j : ℕ) → IsPlace rec i → IsPlace rec j → i ≢ j
+      → Falls (rec .s) (thirdAnswer rec i j .refusal) (thirdAnswer rec i j .place) (thirdAnswer all (i + rec .s) (j + rec .s) .place)
 
 abbrev pub Shortening : Type 0
 Shortening = (rec all : Record) → Usable rec → RecordOf (rec .t) (rec .r) 0 all → Shortens rec all

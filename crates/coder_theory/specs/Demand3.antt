@@ -1,9 +1,10 @@
--- Demand 3 of the calls: `Demand3`, at the end. The theorems are `demand3 : Demand3` and `opened-own : OpenedOwn` (proofs/Demand3). Assumes nothing.
+-- Demand 3 of the calls: `Demand3`, at the end. The theorems are `demand3 : Demand3`, `any-record : AnyRecord` and
+-- `opened-own : OpenedOwn` (proofs/Demand3). Assumes nothing.
 use mathlib.Core.Path.{_≡_}
 use mathlib.Core.Logic.{_≢_, _↔_}
 use mathlib.Core.Bool.{Bool, true, false}
 use mathlib.Core.List.{List}
-use Prim.Native.Nat.{ℕ, _-_, _≤_}
+use Prim.Native.Nat.{ℕ, _+_, _-_, _≤_}
 use lib.ListN.{length, take}
 use Rattle.layout_theory.specs.Parameters.{Admitted, placesOf, messageOf, moduliFor}
 use Rattle.layout_theory.specs.Layout.{slots}
@@ -94,6 +95,11 @@ pub record AtWord (t r : ℕ) (w : List ℕ) : Type 0 where
 -- "For every admitted t and r and every word of length n"
 abbrev pub Demand3 : Type 0
 Demand3 = (t r : ℕ) → Admitted t r → (w : List ℕ) → Word (placesOf t) w → AtWord t r w
+
+-- "an open and fit record": every record whose t and r are admitted and whose words is the sum of the other counts, whatever they are
+abbrev pub AnyRecord : Type 0
+AnyRecord = (rec : Record) → Admitted (rec .t) (rec .r) → rec .words ≡ rec .clean + rec .«corrected_binary» + rec .«corrected_pairs»
+    → RecordOf (rec .t) (rec .r) (rec .s) rec
 
 -- none of it is empty: opening gives a record that each of the calls can have for its own, and words is not full in it
 abbrev pub OpenedOwn : Type 0

@@ -9,8 +9,7 @@ use Rattle.group_theory.specs.Group.{Modulus, number}
 use Rattle.layout_theory.specs.Choice.{oneIf}
 use Rattle.layout_theory.specs.Parameters.{Admitted, admits, placesOf, messageOf, moduliFor}
 use Rattle.shortened_theory.specs.Allowed.{Allowed, allows}
-use Rattle.shortened_theory.specs.Code.{shortenedElementAt, shortenedSyndrome, ShortenedCodeword, isShortenedCodeword, shortenedEncode, shortenedCorrected, shortenedCorrectedPlace, correctedOldPlace, LeftOut, shortenedInverse, shortenedCombine, shortenedThird, thirdOldPlace, isShortenedBinary, isShortenedPaired}
-use Rattle.shortened_theory.specs.Claims.{ShortenedThreeAt}
+use Rattle.shortened_theory.specs.Code.{shortenedElementAt, shortenedSyndrome, isShortenedCodeword, shortenedEncode, shortenedCorrected, shortenedCorrectedPlace, correctedOldPlace, LeftOut, shortenedInverse, shortenedCombine, shortenedThird, thirdOldPlace, isShortenedBinary, isShortenedPaired}
 use Rattle.coder_theory.specs.declared.Record.{Record}
 
 -- "Opening gives t, r (never 0) and four counts at 0: words, clean, mended binary, mended in pairs" (document 01): what it calls mended is
@@ -76,10 +75,7 @@ syndromeIn rec w = shortenedSyndrome (moduliIn rec) (rec .s) w
 unfoldable pub numberIn : Record → List ℕ → ℕ
 numberIn rec e = number (moduliIn rec) e
 
--- "A codeword is a word of syndrome zero.": as a statement and as a test
-abbrev pub CodewordIn : Record → List ℕ → Type 0
-CodewordIn rec w = ShortenedCodeword (moduliIn rec) (rec .s) w
-
+-- "A codeword is a word of syndrome zero.": as a test
 unfoldable pub isCodewordIn : Record → List ℕ → Bool
 isCodewordIn rec w = isShortenedCodeword (moduliIn rec) (rec .s) w
 
@@ -119,10 +115,6 @@ thirdOldPlaceIn rec i j = thirdOldPlace (moduliIn rec) (rec .s) i j
 
 abbrev pub ThirdFallsOut : Record → ℕ → ℕ → Type 0
 ThirdFallsOut rec i j = LeftOut (rec .s) (thirdOldPlaceIn rec i j)
-
--- k makes a codeword of weight 3 with i and j
-abbrev pub ThreeIn : Record → ℕ → ℕ → ℕ → Type 0
-ThreeIn rec i j k = ShortenedThreeAt (moduliIn rec) (rec .s) i j k
 
 -- ---- the counts
 -- "Counts stop at 4,294,967,295."

@@ -1,11 +1,11 @@
--- What the theorems on the group say: `group-laws : Groups` (proofs/Theorem), for every list of moduli, and `size-moduli : Sizes`
--- (proofs/Numbers). "The coder relies on its stated laws, never on how it adds." (document 01). Assumes nothing.
+-- What the theorems on the group say: `group-laws : Groups`, for every list of moduli, `moduli-are : Moduli` (proofs/Theorem)
+-- and `size-moduli : Sizes` (proofs/Numbers). "The coder relies on its stated laws, never on how it adds." (document 01). Assumes nothing.
 use mathlib.Core.Path.{_≡_}
 use mathlib.Core.Logic.{_≢_, _↔_}
 use mathlib.Core.List.{List}
 use Prim.Native.Nat.{ℕ, _+_, _-_, _*_, _%_, _^_, _<_, _≤_}
-use lib.ListN.{getD}
-use Rattle.group_theory.specs.Group.{Modulus, one, four, moduli, Valid, zeros, sum, negative, times, number, element, size}
+use lib.ListN.{length, getD}
+use Rattle.group_theory.specs.Group.{Modulus, one, two, four, radix, moduli, Valid, zeros, sum, negative, times, number, element, size}
 use Rattle.group_theory.specs.Sign.{lead}
 
 -- the first odd quaternary component stands at index i: the quaternary components before it are even
@@ -17,7 +17,8 @@ pub record GroupLaws (ms : List Modulus) : Type 0 where
   -- "Numbers run from 0 to n.": each number below the size is that of one element
   pub numbers : (e : List ℕ) → Valid ms e → (number ms e < size ms) × (element ms (number ms e) ≡ e)
   pub elements : (x : ℕ) → x < size ms → Valid ms (element ms x) × (number ms (element ms x) ≡ x)
-  -- an abelian group, in which four times an element is zero
+  -- added component by component, each by its modulus: an abelian group, in which four times an element is zero
+  pub adds : (x y : List ℕ) (i : ℕ) → i < length ms → getD (sum ms x y) i 0 ≡ (getD x i 0 + getD y i 0) % radix (getD ms i one)
   pub closed : (x y : List ℕ) → Valid ms (sum ms x y) × Valid ms (negative ms x)
   pub commutes : (x y : List ℕ) → sum ms x y ≡ sum ms y x
   pub associates : (x y z : List ℕ) → sum ms (sum ms x y) z ≡ sum ms x (sum ms y z)
@@ -34,6 +35,16 @@ pub record GroupLaws (ms : List Modulus) : Type 0 where
 abbrev pub Groups : Type 0
 Groups = (ms : List Modulus) → GroupLaws ms
 
--- a binary and b quaternary components, at most twelve, have 2^(a + 2b) elements
+-- "The group has a components modulo 2, then b components modulo 4."; further ones, up to twelve, are modulo 1
+pub record ModuliOf (a b : ℕ) : Type 0 where
+  pub twelve : length (moduli a b) ≡ 12
+  pub binary : (i : ℕ) → i < a → getD (moduli a b) i one ≡ two
+  pub quaternary : (i : ℕ) → i < b → getD (moduli a b) (a + i) one ≡ four
+  pub others : (i : ℕ) → getD (moduli a b) (a + b + i) one ≡ one
+
+abbrev pub Moduli : Type 0
+Moduli = (a b : ℕ) → a + b ≤ 12 → ModuliOf a b
+
+-- and 2^(a + 2b) elements
 abbrev pub Sizes : Type 0
 Sizes = (a b : ℕ) → a + b ≤ 12 → size (moduli a b) ≡ 2 ^ (a + 2 * b)

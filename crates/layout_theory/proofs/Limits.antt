@@ -1,13 +1,20 @@
--- The range of t and r: the test is the inequality, and document 01's examples are computed by it. Assumes nothing.
+-- The range of t and r: the inequality, the test for it, and document 01's examples, computed by the test. Assumes nothing.
 use mathlib.Core.Path.{_≡_, refl, sym, _∙_}
 use mathlib.Core.Bool.{false, true≢false}
 use Prim.Native.Nat.{ℕ}
 use Rattle.layout_theory.specs.Parameters.{Admitted, admits}
-use Rattle.layout_theory.specs.Claims.{AdmittedTest, Limits}
+use Rattle.layout_theory.specs.Claims.{AdmittedRange, Limits}
 use Rattle.layout_theory.proofs.Parameters.{admits-admitted, admitted-admits}
 
-pub admitted-test : AdmittedTest
-admitted-test t r = (admits-admitted t r, admitted-admits t r)
+pub admitted-range : AdmittedRange
+admitted-range t r =
+    record {
+      range = (
+        (λ h. (h .least, h .most, h .binary, h .within, h .twice)),
+        λ h. record { least = h .0; most = h .1; binary = h .2; within = h .3; twice = h .4 },
+      );
+      test = (admits-admitted t r, admitted-admits t r);
+    }
 
 not-admitted : (t r : ℕ) → admits t r ≡ false → Admitted t r → ⊥
 not-admitted t r e h = true≢false (sym (admitted-admits t r h) ∙ e)

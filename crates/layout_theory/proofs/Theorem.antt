@@ -14,6 +14,7 @@ use Rattle.layout_theory.specs.Layout.{Slot, single, pair, singles, pair
 use Rattle.layout_theory.specs.Claims.{singleSlots, pairSlots, Layouts}
 use Rattle.layout_theory.proofs.Sizes.{twos, fours, length-message}
 use Rattle.layout_theory.proofs.Places.{good-slots, valid-at-place, one-place}
+use Rattle.layout_theory.proofs.Rises.{parts-of}
 use Rattle.layout_theory.proofs.Parameters.{size-for, twos-for, fours-for, singles-for, pairs-for, message-for, length-for}
 
 -- ---- counting slots
@@ -71,6 +72,7 @@ layout t r h =
       binary = o .0 ∙ ap (λ (k : ℕ). length (singles ms) + k) (twos-for t r h) ∙ singles-for t r h;
       paired = o .1 ∙ ap (λ (k : ℕ). length (pairs ms) + k) (fours-for t r h) ∙ pairs-for t r h;
       front = length-message ms ∙ message-for t r h;
+      parts = parts-of ms;
       good = good-slots ms;
       once = numbers;
     }

@@ -4,14 +4,14 @@
 -- 0 to 9. Assumes nothing.
 use mathlib.Core.Path.{_≡_}
 use mathlib.Core.Logic.{_↔_}
+use mathlib.Core.Bool.{true}
 use mathlib.Core.List.{List, [], _∷_, _++_, flatMap}
-use Prim.Native.Nat.{ℕ, _^_, _<_, _≤_}
+use Prim.Native.Nat.{ℕ, _+_, _-_, _*_, _^_, _<_, _≤_}
 use lib.ListN.{length, take, drop}
 use Rattle.layout_theory.specs.Parameters.{Admitted, placesOf, messageOf}
 use Rattle.layout_theory.specs.Layout.{from}
-use Rattle.coder_theory.specs.State.{fresh}
 use Rattle.coder_theory.specs.Calls.{inForce, elementAnswer}
-use Rattle.listing_theory.specs.Decimal.{decimal, value}
+use Rattle.listing_theory.specs.Decimal.{decimal, isDigit, value}
 use Rattle.listing_theory.specs.Spelling.{Digits, Spells}
 use Rattle.listing_theory.specs.Sheet.{sheetText, overwrite}
 
@@ -22,9 +22,13 @@ refused7 = 114 ∷ 101 ∷ 102 ∷ 117 ∷ 115 ∷ 101 ∷ 100 ∷ 32 ∷ 55 ∷
 abbrev pub refused1 : List ℕ
 refused1 = 114 ∷ 101 ∷ 102 ∷ 117 ∷ 115 ∷ 101 ∷ 100 ∷ 32 ∷ 49 ∷ 10 ∷ []
 
--- "the place and its element number", which is the one that the layout call tells; request C-17: "C calls and sheet use s = 0"
+-- "the place and its element number", which is the one that the layout call tells of a record with nothing counted; request C-17: "C calls and
+-- sheet use s = 0"
+abbrev pub told : ℕ → ℕ → ℕ → ℕ
+told t r p = elementAnswer (record { t = t; r = r; s = 0; words = 0; clean = 0; «corrected_binary» = 0; «corrected_pairs» = 0 }) p .element
+
 abbrev pub lineOf : ℕ → ℕ → ℕ → List ℕ
-lineOf t r p = decimal p ++ (32 ∷ decimal (elementAnswer (fresh t r 0) p .element)) ++ (10 ∷ [])
+lineOf t r p = decimal p ++ (32 ∷ decimal (told t r p)) ++ (10 ∷ [])
 
 -- "It prints `code`, t, r in force, n and message length, then for each place the place and its element number.": the places are 1 to n
 abbrev pub wholeSheet : ℕ → ℕ → List ℕ
@@ -53,6 +57,12 @@ pub record SheetOf (input : List ℕ) : Type 0 where
 
 abbrev pub Sheets : Type 0
 Sheets = (input : List ℕ) → SheetOf input
+
+-- "decimal digits": 48 to 57 are the digits 0 to 9, and a last digit d adds d − 48 to ten times the value of those before it
+pub record DecimalDigits : Type 0 where
+  pub digits : (b : ℕ) → (isDigit b ≡ true) ↔ ((48 ≤ b) × (b ≤ 57))
+  pub none : value [] ≡ 0
+  pub more : (ds : List ℕ) (d : ℕ) → value (ds ++ (d ∷ [])) ≡ value ds * 10 + (d - 48)
 
 -- the decimal numeral of n: digits, one at least, whose value is n, and 0 is the first of them only where it is the only one
 pub record Numeral (n : ℕ) (ds : List ℕ) : Type 0 where
