@@ -8,10 +8,10 @@ use mathlib.Core.Bool.{Bool, true, false}
 use mathlib.Core.List.{List, [], _∷_, _++_}
 use Prim.Native.Nat.{ℕ, _+_, _-_, _<_, _≤_}
 use lib.Dec.{eqb}
-use lib.ListN.{length}
+use lib.ListN.{length, getD}
 use Rattle.layout_theory.specs.Choice.{pick}
 use Rattle.layout_theory.specs.Parameters.{Admitted, placesOf, messageOf, moduliFor}
-use Rattle.words_theory.specs.Words.{Bits, Word, byteAt}
+use Rattle.words_theory.specs.Words.{Bits, Word}
 use Rattle.shortened_theory.specs.Allowed.{Allowed}
 use Rattle.shortened_theory.specs.Code.{ShortenedCodeword}
 use Rattle.shortened_theory.specs.Claims.{ShortenedThreeAt}
@@ -133,8 +133,8 @@ pub record AcceptsIn (rec : Record) : Type 0 where
 pub record Lowest (w : List ℕ) (p : ℕ) : Type 0 where
   pub least : 1 ≤ p
   pub most : p ≤ length w
-  pub above : 1 < byteAt w p
-  pub before : (q : ℕ) → 1 ≤ q → q < p → byteAt w q ≤ 1
+  pub above : 1 < getD w (p - 1) 0
+  pub before : (q : ℕ) → 1 ≤ q → q < p → getD w (q - 1) 0 ≤ 1
 
 -- "place 0 except for 4": what the place p that a call tells has to do with its refusal x and the word w that it read
 pub record TellsPlace (x p : ℕ) (w : List ℕ) : Type 0 where

@@ -4,6 +4,7 @@ use native.Mathlib.Omega.{arith}
 use Rattle.group_theory.specs.Claims.{Groups, Moduli}
 use Rattle.group_theory.proofs.Laws.{valid-sum, valid-negative, valid-element, sum-comm, sum-assoc, zero-sum, sum-negative, times-four, times-two-zero, own-negative}
 use Rattle.group_theory.proofs.Numbers.{element-number, number-element, number-lt}
+use Rattle.group_theory.proofs.Components.{binary-digit, quaternary-digit}
 use Rattle.group_theory.proofs.Fill.{moduli-two, moduli-four, moduli-one, length-moduli, sum-at}
 use Rattle.group_theory.proofs.Signs.{even-own, own-even, lead-negative, lead-first}
 
@@ -32,4 +33,6 @@ moduli-are a b h =
       binary = λ i l. moduli-two a b i (omega arith) l;
       quaternary = λ i l. moduli-four a b (a + i) (omega arith) (omega arith) (omega arith);
       others = λ i. moduli-one a b (a + b + i) (omega arith) (omega arith);
+      binaryDigit = binary-digit a b h;
+      quaternaryDigit = quaternary-digit a b h;
     }

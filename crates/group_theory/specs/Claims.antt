@@ -3,7 +3,7 @@
 use mathlib.Core.Path.{_≡_}
 use mathlib.Core.Logic.{_≢_, _↔_}
 use mathlib.Core.List.{List}
-use Prim.Native.Nat.{ℕ, _+_, _-_, _*_, _%_, _^_, _<_, _≤_}
+use Prim.Native.Nat.{ℕ, _+_, _-_, _*_, _/_, _%_, _^_, _<_, _≤_}
 use lib.ListN.{length, getD}
 use Rattle.group_theory.specs.Group.{Modulus, one, two, four, radix, moduli, Valid, zeros, sum, negative, times, number, element, size}
 use Rattle.group_theory.specs.Sign.{lead}
@@ -41,6 +41,10 @@ pub record ModuliOf (a b : ℕ) : Type 0 where
   pub binary : (i : ℕ) → i < a → getD (moduli a b) i one ≡ two
   pub quaternary : (i : ℕ) → i < b → getD (moduli a b) (a + i) one ≡ four
   pub others : (i : ℕ) → getD (moduli a b) (a + b + i) one ≡ one
+  -- "Its number is u1 + 2·u2 + .. over the binary components, plus 2^a times (q1 + 4·q2 + ..) over the quaternary ones.": the components of the
+  -- element that has the number x are its digits
+  pub binaryDigit : (x i : ℕ) → i < a → getD (element (moduli a b) x) i 0 ≡ x / 2 ^ i % 2
+  pub quaternaryDigit : (x i : ℕ) → i < b → getD (element (moduli a b) x) (a + i) 0 ≡ x / 2 ^ a / 4 ^ i % 4
 
 abbrev pub Moduli : Type 0
 Moduli = (a b : ℕ) → a + b ≤ 12 → ModuliOf a b
