@@ -1,10 +1,19 @@
--- The components of the element that has a number are the digits of that number: a binary ones, then quaternary ones. Assumes nothing.
-use mathlib.Core.Path.{_≡_, sym, ap, _∙_}
+-- The components of the element that has a number are the digits of that number, a binary ones, then quaternary ones; and what components a
+-- unit has: `unit-elements`, whose statement is in specs/Claims. Assumes nothing.
+use mathlib.Core.Path.{_≡_, refl, sym, ap, _∙_}
+use mathlib.Core.Logic.{_≢_}
+use mathlib.Core.Bool.{true, false≢true}
+use mathlib.Core.List.{List, [], _∷_}
 use Prim.Native.Nat.{ℕ, zero, suc, _+_, _/_, _%_, _^_, _<_, _≤_}
 use native.Mathlib.Nat.{pow-succ', div-div-eq-div-mul}
 use native.Mathlib.Omega.{arith}
+use borrow.Author.Tests.{eqb-true}
+use lib.Dec.{eqb}
 use lib.ListN.{getD}
 use Rattle.group_theory.specs.Group.{moduliOf, moduli, element}
+use Rattle.group_theory.specs.Sign.{allZero, isUnit}
+use Rattle.group_theory.specs.Claims.{UnitAt, UnitElements}
+use Rattle.group_theory.proofs.Signs.{both}
 
 -- one digit further on
 further : (x b i : ℕ) → x / b / b ^ i ≡ x / b ^ suc i
@@ -44,3 +53,50 @@ module _ (a b : ℕ) (h : a + b ≤ 12) where
   pub quaternary-digit : (x i : ℕ) → i < b → getD (element (moduli a b) x) (a + i) 0 ≡ x / 2 ^ a / 4 ^ i % 4
   unfolding moduli
   quaternary-digit x i k = quaternary-at 12 a b x i h k
+
+-- ---- units
+zero-at : (e : List ℕ) → allZero e ≡ true → (j : ℕ) → getD e j 0 ≡ 0
+unfolding allZero
+zero-at [] h j = refl
+zero-at (x ∷ e) h zero = eqb-true x 0 (both (eqb x 0) (allZero e) h .0)
+zero-at (x ∷ e) h (suc j) = zero-at e (both (eqb x 0) (allZero e) h .1) j
+
+at-zero : (e : List ℕ) → ((j : ℕ) → getD e j 0 ≡ 0) → allZero e ≡ true
+unfolding allZero
+at-zero [] h = refl
+at-zero (zero ∷ e) h = at-zero e (λ j. h (suc j))
+at-zero (suc x ∷ e) h = let z = h 0 in absurd (omega arith)
+
+-- every component but that of index i is 0, with one more in front
+after-zero : (e : List ℕ) (i : ℕ) → ((j : ℕ) → j ≢ i → getD e j 0 ≡ 0) → (j : ℕ) → j ≢ suc i → getD (0 ∷ e) j 0 ≡ 0
+after-zero e i g zero n = refl
+after-zero e i g (suc j) n = g j (λ z. n (ap suc z))
+
+after-one : (e : List ℕ) → ((j : ℕ) → getD e j 0 ≡ 0) → (j : ℕ) → j ≢ 0 → getD (1 ∷ e) j 0 ≡ 0
+after-one e g zero n = absurd (n refl)
+after-one e g (suc j) n = g j
+
+unit-at : (e : List ℕ) → isUnit e ≡ true → (i : ℕ) × UnitAt e i
+unfolding isUnit
+unit-at [] h = absurd (false≢true h)
+unit-at (suc (suc x) ∷ e) h = absurd (false≢true h)
+unit-at (zero ∷ e) h = let u = unit-at e h in (suc (u .0), (u .1 .0, after-zero e (u .0) (u .1 .1)))
+unit-at (suc zero ∷ e) h = (0, (refl, after-one e (zero-at e h)))
+
+at-unit : (e : List ℕ) (i : ℕ) → UnitAt e i → isUnit e ≡ true
+unfolding isUnit
+at-unit [] i u = absurd (omega (arith, u .0))
+at-unit (x ∷ e) (suc i) u = go x (u .1 0 (omega arith)) (at-unit e i (u .0, λ j n. u .1 (suc j) (λ z. n (omega arith))))
+  where
+    go : (x : ℕ) → x ≡ 0 → isUnit e ≡ true → isUnit (x ∷ e) ≡ true
+    go zero z y = y
+    go (suc x) z y = absurd (omega arith)
+at-unit (x ∷ e) zero u = go x (u .0)
+  where
+    go : (x : ℕ) → x ≡ 1 → isUnit (x ∷ e) ≡ true
+    go zero z = absurd (omega arith)
+    go (suc zero) z = at-zero e (λ j. u .1 (suc j) (omega arith))
+    go (suc (suc x)) z = absurd (omega arith)
+
+pub unit-elements : UnitElements
+unit-elements e = (unit-at e, λ u. at-unit e (u .0) (u .1))

@@ -1,12 +1,13 @@
--- What the theorems on the group say: `group-laws : Groups`, for every list of moduli, `moduli-are : Moduli` (proofs/Theorem)
--- and `size-moduli : Sizes` (proofs/Numbers). "The coder relies on its stated laws, never on how it adds." (document 01). Assumes nothing.
+-- What the theorems on the group say: `group-laws : Groups`, for every list of moduli, `moduli-are : Moduli` (proofs/Theorem),
+-- `unit-elements : UnitElements` (proofs/Components) and `size-moduli : Sizes` (proofs/Numbers). "The coder relies on its stated laws, never on how it adds." (document 01). Assumes nothing.
 use mathlib.Core.Path.{_≡_}
 use mathlib.Core.Logic.{_≢_, _↔_}
+use mathlib.Core.Bool.{true}
 use mathlib.Core.List.{List}
 use Prim.Native.Nat.{ℕ, _+_, _-_, _*_, _/_, _%_, _^_, _<_, _≤_}
 use lib.ListN.{length, getD}
 use Rattle.group_theory.specs.Group.{Modulus, one, two, four, radix, moduli, Valid, zeros, sum, negative, times, number, element, size}
-use Rattle.group_theory.specs.Sign.{lead}
+use Rattle.group_theory.specs.Sign.{isUnit, lead}
 
 -- the first odd quaternary component stands at index i: the quaternary components before it are even
 abbrev pub FirstOdd : List Modulus → List ℕ → ℕ → Type 0
@@ -34,6 +35,13 @@ pub record GroupLaws (ms : List Modulus) : Type 0 where
 
 abbrev pub Groups : Type 0
 Groups = (ms : List Modulus) → GroupLaws ms
+
+-- a unit element: one component is 1, every other 0
+abbrev pub UnitAt : List ℕ → ℕ → Type 0
+UnitAt e i = (getD e i 0 ≡ 1) × ((j : ℕ) → j ≢ i → getD e j 0 ≡ 0)
+
+abbrev pub UnitElements : Type 0
+UnitElements = (e : List ℕ) → (isUnit e ≡ true) ↔ ((i : ℕ) × UnitAt e i)
 
 -- "The group has a components modulo 2, then b components modulo 4."; further ones, up to twelve, are modulo 1
 pub record ModuliOf (a b : ℕ) : Type 0 where

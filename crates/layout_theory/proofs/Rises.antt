@@ -1,18 +1,20 @@
--- The parts of the layout, for every list of moduli: each by rising number, units in the check alone. Assumes nothing.
+-- The parts of the layout, for every list of moduli: each by rising number, units in the check alone, −z before z. Assumes nothing.
 use mathlib.Core.Path.{_≡_, refl, sym, ap, subst}
 use mathlib.Core.List.{List, [], _∷_, map}
 use mathlib.Core.Bool.{Bool, true, false, not, _&&_}
-use Prim.Native.Nat.{ℕ, zero, suc, _+_, _-_, _*_, _%_, _≤_}
+use Prim.Native.Nat.{ℕ, zero, suc, _+_, _-_, _*_, _%_, _<_, _≤_}
 use native.Mathlib.Omega.{arith}
 use lib.Dec.{eqb}
+use lib.ListN.{length, getD}
 use borrow.Author.Tests.{not-true}
-use Rattle.group_theory.specs.Group.{Modulus, one, two, four, radix, zeros, sum, number, element, size}
+use Rattle.group_theory.specs.Group.{Modulus, one, two, four, radix, zeros, sum, negative, number, element, size}
 use Rattle.group_theory.specs.Sign.{same, isUnit, lead}
 use Rattle.group_theory.proofs.Numbers.{number-element, number-zeros, size-pos}
-use Rattle.group_theory.proofs.Signs.{both, zeros-allZero}
-use Rattle.layout_theory.specs.Layout.{Slot, single, pair, from, keep, elements, inSingles, singles, inPairs, pairs, zeroFirst, units, message, slots}
-use Rattle.layout_theory.specs.Claims.{named, RisesFrom, AllUnits, PartsOf}
+use Rattle.group_theory.proofs.Signs.{both, own-even, zeros-allZero}
+use Rattle.layout_theory.specs.Layout.{Slot, single, pair, from, keep, elements, inSingles, singles, inPairs, pairs, zeroFirst, units, message, slots, places}
+use Rattle.layout_theory.specs.Claims.{Good, named, RisesFrom, AllUnits, PartsOf}
 use Rattle.layout_theory.proofs.Lists.{keep-yes, keep-no}
+use Rattle.layout_theory.proofs.Places.{good-slots}
 
 lower : (m n : ℕ) (xs : List ℕ) → m ≤ n → RisesFrom n xs → RisesFrom m xs
 lower m n [] h r = tt
@@ -106,6 +108,17 @@ only-units (one ∷ ms) = rw (named-later (units ms)) (units-later (named (units
 only-units (two ∷ ms) = rw (named-later (units ms)) (zeros-allZero ms, units-later (named (units ms)) (only-units ms))
 only-units (four ∷ ms) = rw (named-later (units ms)) (zeros-allZero ms, units-later (named (units ms)) (only-units ms))
 
+-- ---- −z stands directly before z
+minus-first : (ms : List Modulus) (sl : List Slot) → Good ms sl → (i : ℕ) → i < length (places ms sl) → lead ms (getD (places ms sl) i (zeros ms)) ≡ 3
+    → negative ms (getD (places ms sl) (suc i) (zeros ms)) ≡ getD (places ms sl) i (zeros ms)
+unfolding places
+minus-first ms [] g i h e = absurd (omega arith)
+minus-first ms (single x ∷ sl) g zero h e = let z = own-even ms x (g .0) (g .1) in absurd (omega arith)
+minus-first ms (single x ∷ sl) g (suc i) h e = minus-first ms sl (g .2) i (omega arith) e
+minus-first ms (pair z ∷ sl) g zero h e = refl
+minus-first ms (pair z ∷ sl) g (suc zero) h e = let l = g .1 in absurd (omega arith)
+minus-first ms (pair z ∷ sl) g (suc (suc i)) h e = minus-first ms sl (g .2) i (omega arith) e
+
 pub parts-of : (ms : List Modulus) → PartsOf ms
 unfolding slots message singles pairs
 parts-of ms =
@@ -116,4 +129,5 @@ parts-of ms =
       unitsRise = units-rise ms;
       noUnits = (no-units (λ e. same (sum ms e e) (zeros ms)) (elements ms), no-units (λ e. eqb (lead ms e) 1) (elements ms));
       onlyUnits = only-units ms;
+      minusFirst = minus-first ms (slots ms) (good-slots ms);
     }

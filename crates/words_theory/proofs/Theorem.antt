@@ -19,6 +19,7 @@ use Rattle.words_theory.specs.Coding.{encode}
 use Rattle.words_theory.specs.Claims.{messageLengthOf, GroupOf, HalvesOf, CodeOf, Codes}
 use Rattle.words_theory.proofs.OtherHalf.{other-other, other-lt, other-negative}
 use Rattle.words_theory.proofs.Reading.{word-reads, reads-word}
+use Rattle.words_theory.proofs.Adding.{adds-of}
 use Rattle.words_theory.proofs.Combining.{combine-reads, inverse-reads, combine-comm, combine-assoc, combine-zero, combine-inverse, syndrome-combine, syndrome-inverse}
 use Rattle.words_theory.proofs.Distances.{perfect}
 use Rattle.words_theory.proofs.Carrying.{carried}
@@ -42,6 +43,7 @@ module _ (ms : List Modulus) where
   pub word-group : GroupOf ms
   word-group =
       record {
+        places = adds-of (slots ms);
         closed = λ x y h k. reads-word ms (combine-reads (word-reads ms h) (word-reads ms k));
         commutes = combine-comm (slots ms);
         associates = combine-assoc (slots ms);
