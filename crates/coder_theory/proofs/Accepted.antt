@@ -1,15 +1,16 @@
 -- None of the theorems on refusals is empty: with a usable record, bits of the right length, room enough and, for correction, words not full,
 -- each call on words is accepted and does its work, and two places have their third; correction and third place where the place is not left
 -- out. Assumes nothing.
-use mathlib.Core.Path.{_≡_, refl, sym, ap, ap₂, _∙_}
+use mathlib.Core.Path.{_≡_, sym, ap, ap₂, _∙_}
 use mathlib.Core.Logic.{_≢_}
 use mathlib.Core.List.{List, [], _∷_, _++_}
-use mathlib.Core.Bool.{Bool, true, false, not, _||_}
+use mathlib.Core.Bool.{true, false, not, _||_}
 use Prim.Native.Nat.{ℕ, _≤_}
 use native.Mathlib.Omega.{arith}
 use borrow.Author.Tests.{eq-eqb, ne-eqb, le-ltb}
 use lib.ListN.{length, take, drop}
 use lib.Seq.{take-append-seam, drop-append-seam}
+use Rattle.group_theory.proofs.Signs.{not-true}
 use Rattle.words_theory.specs.Words.{Word}
 use Rattle.shortened_theory.specs.Code.{LeftOut, isLeftOut}
 use Rattle.coder_theory.specs.State.{Usable, placesIn, messageIn, syndromeIn, numberIn, isCodewordIn, encodedIn, FallsOut, ThirdFallsOut}
@@ -45,11 +46,7 @@ write-none rec n w room f h l =
 
 -- a place that is not left out
 pub not-left : (s q : ℕ) → (LeftOut s q → ⊥) → isLeftOut s q ≡ false
-not-left s q h = go (isLeftOut s q) refl
-  where
-    go : (b : Bool) → isLeftOut s q ≡ b → isLeftOut s q ≡ false
-    go true y = absurd (h (left-applies s q .0 y))
-    go false y = y
+not-left s q h = not-true (isLeftOut s q) (λ y. h (left-applies s q .0 y))
 
 pub correct-none : (rec : Record) (w out : List ℕ) → Usable rec → rec .words ≢ fullCount → (FallsOut rec w → ⊥) → Word (placesIn rec) w → placesIn rec ≤ length out
     → NoneApplies (correctReasons rec w (length out))

@@ -22,7 +22,7 @@ use Rattle.coder_theory.specs.Calls.{ifAccepted, stateReasons, inForce, 
 use Rattle.coder_theory.specs.declared.Record.{Record}
 use Rattle.coder_theory.specs.declared.ElementAnswer.{ElementAnswer}
 use Rattle.coder_theory.proofs.Firsts.{first-yes, first-no, first-end}
-use Rattle.coder_theory.proofs.States.{Clear, state-number, state-past, true-usable}
+use Rattle.coder_theory.proofs.States.{or-left, or-right, Clear, state-number, state-past, true-usable}
 
 abbrev numberOf : Reason → ℕ
 numberOf x = x .number
@@ -91,12 +91,8 @@ element-state rec p n e h =
 
 -- a place outside 1 to n, as reason 5 tests it
 pub outside-yes : (rec : Record) (p : ℕ) → (p ≡ 0) ⊎ (placesIn rec < p) → outside rec p .applies ≡ true
-outside-yes rec p (inl z) = ap (λ (b : Bool). b || ltb (placesIn rec) p) (eq-eqb p 0 z)
-outside-yes rec p (inr l) = ap (λ (b : Bool). eqb p 0 || b) (lt-ltb (placesIn rec) p l) ∙ or-true (eqb p 0)
-  where
-    or-true : (b : Bool) → (b || true) ≡ true
-    or-true true = refl
-    or-true false = refl
+outside-yes rec p (inl z) = or-left (eqb p 0) (ltb (placesIn rec) p) (eq-eqb p 0 z)
+outside-yes rec p (inr l) = or-right (eqb p 0) (ltb (placesIn rec) p) (lt-ltb (placesIn rec) p l)
 
 module _ (rec : Record) (f : Clear rec) where
   pub element-outside : (p : ℕ) → (p ≡ 0) ⊎ (placesIn rec < p) → elementAnswer rec p ≡ refusedElement 5

@@ -2,20 +2,17 @@
 use mathlib.Core.Path.{_≡_, refl, sym, ap, _∙_}
 use mathlib.Core.Logic.{_≢_}
 use mathlib.Core.List.{List, [], _∷_, _++_}
-use mathlib.Core.Bool.{Bool, true, false, not, _&&_, true≢false}
+use mathlib.Core.Bool.{Bool, true, false, not, _&&_}
 use Prim.Native.Nat.{ℕ}
 use lib.Dec.{eqb}
 use borrow.Author.Tests.{eqb-false, not-true}
+use Rattle.group_theory.proofs.Signs.{both}
 use Rattle.coder_theory.specs.Reasons.{Reason, accepted, firstReason}
 
 -- none of the reasons applies
 abbrev pub NoneApplies : List Reason → Type 0
 NoneApplies [] = Unit {0}
 NoneApplies (x ∷ xs) = (x .applies ≡ false) × NoneApplies xs
-
-pub and-true : (a b : Bool) → (a && b) ≡ true → (a ≡ true) × (b ≡ true)
-and-true true b e = (refl, e)
-and-true false b e = absurd (true≢false (sym e))
 
 pub first-yes : (x : Reason) (xs : List Reason) → x .applies ≡ true → firstReason (x ∷ xs) ≡ x
 unfolding firstReason
@@ -72,7 +69,7 @@ none-accepted rs h = ap (λ (x : Reason). x .number) (none-first rs h)
 
 pub accepted-none : (rs : List Reason) → numbered rs ≡ true → firstReason rs .number ≡ 0 → NoneApplies rs
 accepted-none [] k e = tt
-accepted-none (x ∷ xs) k e = let n = and-true (not (eqb (x .number) 0)) (numbered xs) k in go (n .0) (accepted-none xs (n .1)) (x .applies) refl
+accepted-none (x ∷ xs) k e = let n = both (not (eqb (x .number) 0)) (numbered xs) k in go (n .0) (accepted-none xs (n .1)) (x .applies) refl
   where
     go : not (eqb (x .number) 0) ≡ true → (firstReason xs .number ≡ 0 → NoneApplies xs) → (b : Bool) → x .applies ≡ b → NoneApplies (x ∷ xs)
     go n f true y = absurd (eqb-false (x .number) 0 (not-true (eqb (x .number) 0) n) (sym (ap (λ (x : Reason). x .number) (first-yes x xs y)) ∙ e))

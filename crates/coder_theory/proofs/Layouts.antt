@@ -6,6 +6,7 @@ use mathlib.Core.List.{List, [], _∷_, map}
 use Prim.Native.Nat.{ℕ, zero, suc, _+_, _-_, _≤_, _<_}
 use native.Mathlib.Omega.{arith}
 use native.Mathlib.Decide.{decLt}
+use lib.Seq.{getD-drop}
 use lib.ListN.{length, drop, getD, length-drop, length-map, List·getD-map}
 use Rattle.group_theory.specs.Group.{Modulus, number, zeros}
 use Rattle.group_theory.proofs.Numbers.{number-zeros}
@@ -39,11 +40,6 @@ unfolding elementIn shortenedElementAt
 element-old rec p a = ap (λ (q : ℕ). number (moduliIn rec) (elementAt (moduliIn rec) q)) (old-sum (rec .s) p (λ z. omega arith))
 
 -- ---- place by place and as one list
-get-drop : (s : ℕ) (xs : List ℕ) (i : ℕ) → getD (drop s xs) i 0 ≡ getD xs (s + i) 0
-get-drop zero xs i = let e : i ≡ 0 + i = omega arith in ap (λ (k : ℕ). getD xs k 0) e
-get-drop (suc s) [] i = refl
-get-drop (suc s) (x ∷ xs) i = let e : suc (s + i) ≡ suc s + i = omega arith in get-drop s xs i ∙ ap (λ (k : ℕ). getD (x ∷ xs) k 0) e
-
 -- numbers k, k + 1, .. for which f gives the members of a list, one after the other
 listed : (f : ℕ → ℕ) (xs : List ℕ) (k : ℕ) → ((i : ℕ) → i < length xs → f (k + i) ≡ getD xs i 0) → map f (from k (length xs)) ≡ xs
 unfolding from
@@ -75,7 +71,7 @@ module _ (rec : Record) (f : Usable rec) where
       ∙ ap (λ (q : ℕ). number ms (elementAt ms q)) e
       ∙ sym (List·getD-map (number ms) (places ms (slots ms)) (rec .s + i) (zeros ms))
       ∙ ap (getD numbers (rec .s + i)) (number-zeros ms)
-      ∙ sym (get-drop (rec .s) numbers i)
+      ∙ sym (getD-drop (rec .s) numbers i 0)
 
   pub tells-layout : TellsLayout rec
   tells-layout =

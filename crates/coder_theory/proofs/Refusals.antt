@@ -3,7 +3,7 @@
 use mathlib.Core.Path.{_≡_, refl, sym, ap, subst, _∙_}
 use mathlib.Core.Logic.{_⊎_, inl, inr, ⊎-elim, _≢_, _↔_}
 use mathlib.Core.List.{List}
-use mathlib.Core.Bool.{Bool, true, false, _||_, not, true≢false}
+use mathlib.Core.Bool.{Bool, true, false, _||_, not, false≢true}
 use Prim.Native.Nat.{ℕ, zero, suc, _+_, _≤_, _<_}
 use native.Mathlib.Omega.{arith}
 use lib.Dec.{eqb, ltb}
@@ -23,7 +23,7 @@ use Rattle.coder_theory.specs.Calls.{encodeAnswer, encodeOutput, invertA
 use Rattle.coder_theory.specs.Demand1.{Unfit}
 use Rattle.coder_theory.specs.declared.Record.{Record}
 use Rattle.coder_theory.specs.declared.Opened.{Opened}
-use Rattle.coder_theory.proofs.States.{usable-true}
+use Rattle.coder_theory.proofs.States.{or-either, or-left, or-right, usable-true}
 use Rattle.coder_theory.proofs.Corrections.{left-false, left-true}
 use Rattle.coder_theory.proofs.Bytes.{bits-none, none-bits}
 use Rattle.coder_theory.proofs.Outcomes.{if-refused}
@@ -46,33 +46,23 @@ correct-untouched rec w out h = (if-refused _ _ _ h, if-refused _ _ _ h)
 pub invert-untouched : (rec : Record) (w out : List ℕ) → invertAnswer rec w out .refusal ≢ 0 → invertOutput rec w out ≡ out
 invert-untouched rec w out h = sym (invert-kept rec w out (invertAnswer rec w out) refl h)
 
+-- ---- tests and what they say
+pub by-test : {why : Type 0} (b : Bool) → (b ≡ true → why) → (b ≡ false → why → ⊥) → (b ≡ true) ↔ why
+by-test true so never = ((λ e. so refl), λ h. refl)
+by-test false so never = ((λ e. absurd (false≢true e)), λ h. absurd (never refl h))
+
+not-test : {why : Type 0} (b : Bool) → (b ≡ true) ↔ why → (not b ≡ true) ↔ (why → ⊥)
+not-test true same = ((λ e. absurd (false≢true e)), λ n. absurd (n (same .0 refl)))
+not-test false same = ((λ e h. false≢true (same .1 h)), λ n. refl)
+
 -- ---- the reasons in document 01's words
 -- 1: t and r are not admitted
 pub one-applies : (t r : ℕ) → (notAdmitted t r .applies ≡ true) ↔ (Admitted t r → ⊥)
-one-applies t r = (
-  (λ e h. true≢false (sym e ∙ ap not (admitted-admits t r h))),
-  (λ n. go (admits t r) refl n),
-)
-  where
-    go : (b : Bool) → admits t r ≡ b → (Admitted t r → ⊥) → not (admits t r) ≡ true
-    go true y n = absurd (n (admits-admitted t r y))
-    go false y n = ap not y
+one-applies t r = not-test (admits t r) (admits-admitted t r, admitted-admits t r)
 
 -- 21: t is 0
 pub closed-applies : (rec : Record) → (closed rec .applies ≡ true) ↔ (rec .t ≡ 0)
 closed-applies rec = ((λ e. eqb-true (rec .t) 0 e), (λ e. eq-eqb (rec .t) 0 e))
-
--- one of two tests holds
-or-either : (a b : Bool) → (a || b) ≡ true → (a ≡ true) ⊎ (b ≡ true)
-or-either true b e = inl refl
-or-either false b e = inr e
-
-or-left : (a b : Bool) → a ≡ true → (a || b) ≡ true
-or-left a b e = ap (λ (c : Bool). c || b) e
-
-or-right : (a b : Bool) → b ≡ true → (a || b) ≡ true
-or-right true b e = refl
-or-right false b e = e
 
 -- 22: the parameters are not admitted, r is 0, or words is not the sum of the other counts
 module _ (rec : Record) where
@@ -88,15 +78,17 @@ module _ (rec : Record) where
   abbrev other : Bool
   other = not (eqb (rec .words) sums)
 
+  unequal : (other ≡ true) ↔ (rec .words ≢ sums)
+  unequal = not-test (eqb (rec .words) sums) (eqb-true (rec .words) sums, eq-eqb (rec .words) sums)
+
   unfit-true : (bad ≡ true) ⊎ ((none || other) ≡ true) → Unfit rec
   unfit-true (inl e) = inl (one-applies (rec .t) (rec .r) .0 e)
-  unfit-true (inr e) =
-      inr (⊎-elim (λ y. inl (eqb-true (rec .r) 0 y)) (λ y. inr (eqb-false (rec .words) sums (not-true (eqb (rec .words) sums) y))) (or-either none other e))
+  unfit-true (inr e) = inr (⊎-elim (λ y. inl (eqb-true (rec .r) 0 y)) (λ y. inr (unequal .0 y)) (or-either none other e))
 
   true-unfit : Unfit rec → (bad || (none || other)) ≡ true
   true-unfit (inl n) = or-left bad (none || other) (one-applies (rec .t) (rec .r) .1 n)
   true-unfit (inr (inl z)) = or-right bad (none || other) (or-left none other (eq-eqb (rec .r) 0 z))
-  true-unfit (inr (inr n)) = or-right bad (none || other) (or-right none other (ap not (ne-eqb (rec .words) sums n)))
+  true-unfit (inr (inr n)) = or-right bad (none || other) (or-right none other (unequal .1 n))
 
   pub unfit-applies : (unfit rec .applies ≡ true) ↔ Unfit rec
   unfolding isUnfit
@@ -104,22 +96,11 @@ module _ (rec : Record) where
 
 -- 10: s is not allowed
 pub allowed-applies : (t r s : ℕ) → (notAllowed t r s .applies ≡ true) ↔ (Allowed t r s → ⊥)
-allowed-applies t r s = (
-  (λ e h. true≢false (sym e ∙ ap not (allowed-allows t r s h))),
-  (λ n. go (allows t r s) refl n),
-)
-  where
-    go : (b : Bool) → allows t r s ≡ b → (Allowed t r s → ⊥) → not (allows t r s) ≡ true
-    go true y n = absurd (n (allows-allowed t r s y))
-    go false y n = ap not y
+allowed-applies t r s = not-test (allows t r s) (allows-allowed t r s, allowed-allows t r s)
 
 -- 11: the place is one of the first s
 pub left-applies : (s q : ℕ) → (leftOut s q .applies ≡ true) ↔ LeftOut s q
-left-applies s q = (left-true s q, go (isLeftOut s q) refl)
-  where
-    go : (b : Bool) → isLeftOut s q ≡ b → LeftOut s q → isLeftOut s q ≡ true
-    go true y h = y
-    go false y h = absurd (left-false s q y h)
+left-applies s q = by-test (isLeftOut s q) (left-true s q) (left-false s q)
 
 -- 5: the place is 0 or beyond n
 pub outside-applies : (rec : Record) (p : ℕ) → (outside rec p .applies ≡ true) ↔ ((p ≡ 0) ⊎ (placesIn rec < p))
@@ -130,10 +111,7 @@ outside-applies rec p = (to, outside-yes rec p)
 
 -- 2: the length is another
 pub length-applies : (n : ℕ) (w : List ℕ) → (wrongLength n w .applies ≡ true) ↔ (length w ≢ n)
-length-applies n w = (
-  (λ e. eqb-false (length w) n (not-true (eqb (length w) n) e)),
-  (λ h. ap not (ne-eqb (length w) n h)),
-)
+length-applies n w = not-test (eqb (length w) n) (eqb-true (length w) n, eq-eqb (length w) n)
 
 -- 3: the output is shorter than needed
 pub output-applies : (n room : ℕ) → (shortOutput n room .applies ≡ true) ↔ (room < n)

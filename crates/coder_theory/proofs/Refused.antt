@@ -2,10 +2,11 @@
 use mathlib.Core.Path.{_≡_, refl, sym, ap, _∙_}
 use mathlib.Core.Logic.{_≢_, _↔_, _⊎_, inl, inr}
 use mathlib.Core.List.{List, [], _∷_, _++_}
-use mathlib.Core.Bool.{Bool, true, false, true≢false}
+use mathlib.Core.Bool.{true, false}
 use Prim.Native.Nat.{ℕ}
 use native.Mathlib.Omega.{arith}
 use lib.ListN.{length}
+use Rattle.group_theory.proofs.Signs.{not-true}
 use Rattle.shortened_theory.specs.Allowed.{Allowed}
 use Rattle.coder_theory.specs.State.{Usable, placesIn, messageIn, correctedOldPlaceIn, thirdOldPlaceIn, ThirdFallsOut}
 use Rattle.coder_theory.specs.Reasons.{Reason, closed, unfit, notAllowed, wrongLength, shortOutput, badByte, outside, equalPlaces, leftOut, full}
@@ -19,17 +20,14 @@ use Rattle.coder_theory.proofs.Rows.{Rowed, done, row, two, by-first}
 use Rattle.coder_theory.proofs.States.{true-usable}
 use Rattle.coder_theory.proofs.Answers.{element-refusal}
 use Rattle.coder_theory.proofs.Outcomes.{inside-by}
-use Rattle.coder_theory.proofs.Refusals.{closed-applies, unfit-applies, allowed-applies, left-applies, outside-applies, length-applies, output-applies, full-applies, byte-applies, equal-applies}
+use Rattle.coder_theory.proofs.Refusals.{by-test, closed-applies, unfit-applies, allowed-applies, left-applies, outside-applies, length-applies, output-applies, full-applies, byte-applies, equal-applies}
+use Rattle.coder_theory.proofs.Corrections.{left-false}
 use Rattle.coder_theory.proofs.Accepts.{word-by, has, kept, three}
 use Rattle.coder_theory.proofs.Accepted.{third-accepts, third-left}
 
 -- a reason that does not apply
 off : {why : Type 0} (x : Reason) → (x .applies ≡ true) ↔ why → (why → ⊥) → x .applies ≡ false
-off x same never = go (x .applies) refl
-  where
-    go : (b : Bool) → x .applies ≡ b → x .applies ≡ false
-    go true y = absurd (never (same .0 y))
-    go false y = y
+off x same never = not-true (x .applies) (λ e. never (same .0 e))
 
 -- ---- the state
 abbrev Past : Record → Type 0
@@ -69,16 +67,10 @@ module _ (rec : Record) where
     is-word = word-by (wordPlaces rec) w (off (wrongLength (wordPlaces rec) w) (length-applies (wordPlaces rec) w) (p .0 .0 .1)) (off (badByte w) (byte-applies w) (p .1))
 
     left : (leftOut (rec .s) (correctedOldPlaceIn rec w) .applies ≡ true) ↔ (HasNear (rec .t) (rec .r) (rec .s) w → ⊥)
-    left = (
-      (λ e c. kept rec w (usable (p .0 .0 .0)) is-word c (left-applies (rec .s) (correctedOldPlaceIn rec w) .0 e)),
-      λ never. go (leftOut (rec .s) (correctedOldPlaceIn rec w) .applies) refl never,
-    )
-      where
-        go : (b : Bool) → leftOut (rec .s) (correctedOldPlaceIn rec w) .applies ≡ b → (HasNear (rec .t) (rec .r) (rec .s) w → ⊥)
-            → leftOut (rec .s) (correctedOldPlaceIn rec w) .applies ≡ true
-        go true y never = y
-        go false y never =
-            absurd (never (has rec w (usable (p .0 .0 .0)) is-word (λ x. true≢false (sym (left-applies (rec .s) (correctedOldPlaceIn rec w) .1 x) ∙ y))))
+    left =
+        by-test (leftOut (rec .s) (correctedOldPlaceIn rec w) .applies)
+        (λ e c. kept rec w (usable (p .0 .0 .0)) is-word c (left-applies (rec .s) (correctedOldPlaceIn rec w) .0 e))
+        (λ y never. never (has rec w (usable (p .0 .0 .0)) is-word (left-false (rec .s) (correctedOldPlaceIn rec w) y)))
 
   -- ---- the third place
   module _ (i j : ℕ) (p : (Past rec × ((Outside rec i) ⊎ (Outside rec j) → ⊥)) × (i ≢ j)) where
@@ -104,18 +96,13 @@ module _ (rec : Record) where
     stopped q = ap (λ (x : Answer). x .refusal) (third-left rec i j f (a .0) (a .1) (b .0) (b .1) (p .1) q)
 
     third-left-out : (leftOut (rec .s) (thirdOldPlaceIn rec i j) .applies ≡ true) ↔ ((k : ℕ) → ThreeIn rec i j k → ⊥)
-    third-left-out = (
-      (λ e. three rec i j f a b (p .1) .none .0 (stopped (left-applies (rec .s) (thirdOldPlaceIn rec i j) .0 e))),
-      λ never. go (leftOut (rec .s) (thirdOldPlaceIn rec i j) .applies) refl (three rec i j f a b (p .1) .none .1 never),
-    )
+    third-left-out =
+        by-test (leftOut (rec .s) (thirdOldPlaceIn rec i j) .applies)
+        (λ e. three rec i j f a b (p .1) .none .0 (stopped (left-applies (rec .s) (thirdOldPlaceIn rec i j) .0 e)))
+        (λ y never. clash (sym (told (left-false (rec .s) (thirdOldPlaceIn rec i j) y)) ∙ three rec i j f a b (p .1) .none .1 never))
       where
-        go : (x : Bool) → leftOut (rec .s) (thirdOldPlaceIn rec i j) .applies ≡ x → thirdAnswer rec i j .refusal ≡ 11
-            → leftOut (rec .s) (thirdOldPlaceIn rec i j) .applies ≡ true
-        go true y e = y
-        go false y e =
-            let z : _≡_ {A = ℕ} 0 11 =
-            sym (told (λ x. true≢false (sym (left-applies (rec .s) (thirdOldPlaceIn rec i j) .1 x) ∙ y))) ∙ e in
-            absurd (omega arith)
+        clash : _≡_ {A = ℕ} 0 11 → ⊥
+        clash z = omega arith
 
 -- ---- the calls
 pub refused : (rec : Record) → RefusedIn rec

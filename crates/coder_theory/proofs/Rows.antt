@@ -7,9 +7,10 @@ use mathlib.Core.Bool.{Bool, true, false, not, _&&_, true≢false}
 use Prim.Native.Nat.{ℕ}
 use lib.Dec.{eqb}
 use borrow.Author.Tests.{eqb-false, not-true}
+use Rattle.group_theory.proofs.Signs.{both}
 use Rattle.coder_theory.specs.Reasons.{Reason, firstReason}
 use Rattle.coder_theory.specs.Demand1.{ByRows, numbersOf, order, inOrder, Refused}
-use Rattle.coder_theory.proofs.Firsts.{and-true, first-yes, first-no, first-end}
+use Rattle.coder_theory.proofs.Firsts.{first-yes, first-no, first-end}
 
 abbrev numberOf : Reason → ℕ
 numberOf x = x .number
@@ -33,11 +34,11 @@ distinct [] = true
 distinct (n ∷ ns) = without n (0 ∷ ns) && distinct ns
 
 differ : (n m : ℕ) (ms : List ℕ) → without n (m ∷ ms) ≡ true → (n ≢ m) × (without n ms ≡ true)
-differ n m ms e = let k = and-true (not (eqb n m)) (without n ms) e in (eqb-false n m (not-true (eqb n m) (k .0)), k .1)
+differ n m ms e = let k = both (not (eqb n m)) (without n ms) e in (eqb-false n m (not-true (eqb n m) (k .0)), k .1)
 
 -- without the number of the first row
 fewer : (n m : ℕ) (ms : List ℕ) → without n (0 ∷ m ∷ ms) ≡ true → (n ≢ m) × (without n (0 ∷ ms) ≡ true)
-fewer n m ms e = let z = and-true (not (eqb n 0)) (without n (m ∷ ms)) e in let d = differ n m ms (z .1) in (d .0, ap (λ (b : Bool). b && without n ms) (z .0) ∙ d .1)
+fewer n m ms e = let z = both (not (eqb n 0)) (without n (m ∷ ms)) e in let d = differ n m ms (z .1) in (d .0, ap (λ (b : Bool). b && without n ms) (z .0) ∙ d .1)
 
 -- ---- a number that no row has is not given
 other : {past : Type 0} (xs : List Reason) (rows : List (ℕ × Type 0)) → Rowed past xs rows → (n : ℕ) → without n (0 ∷ numbersOf rows) ≡ true
@@ -68,7 +69,7 @@ by-rows : (x : ℕ) (past : Type 0) → past → (xs : List Reason) (rows : List
     → x ≡ firstReason xs .number → ByRows x past rows
 by-rows x past p _ _ done d e = ((λ z. p), (λ z. e ∙ ap numberOf first-end))
 by-rows x past p _ _ (row {why = why} {xs = xs} {rows = rows} y same later) d e =
-    let k = and-true (without (y .number) (0 ∷ numbersOf rows)) (distinct (numbersOf rows)) d in
+    let k = both (without (y .number) (0 ∷ numbersOf rows)) (distinct (numbersOf rows)) d in
     go (k .0) (λ n h. by-rows x (past × (why → ⊥)) (p, n) xs rows later (k .1) h) (y .applies) refl
   where
     go : without (y .number) (0 ∷ numbersOf rows) ≡ true → ((why → ⊥) → x ≡ firstReason xs .number → ByRows x (past × (why → ⊥)) rows)
@@ -82,7 +83,7 @@ by-rows x past p _ _ (row {why = why} {xs = xs} {rows = rows} y same later) d e 
         let never : why → ⊥ = λ so. true≢false (sym (same p .1 so) ∙ i) in
         (((λ z. absurd (other xs rows later (y .number) w (sym first ∙ z))), (λ q. absurd (never (q .1)))), rest never first)
 by-rows x past p _ _ (two {why = why} {why′ = why′} {xs = xs} {rows = rows} y v k same same′ later) d e =
-    let t = and-true (without (y .number) (0 ∷ numbersOf rows)) (distinct (numbersOf rows)) d in
+    let t = both (without (y .number) (0 ∷ numbersOf rows)) (distinct (numbersOf rows)) d in
     go (t .0) (λ n h. by-rows x (past × (why ⊎ why′ → ⊥)) (p, n) xs rows later (t .1) h) (y .applies) refl (v .applies) refl
   where
     given : without (y .number) (0 ∷ numbersOf rows) ≡ true → x ≡ y .number → why ⊎ why′ → ByRows x past ((y .number, why ⊎ why′) ∷ rows)

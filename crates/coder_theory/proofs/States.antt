@@ -1,6 +1,6 @@
 -- What it is for a record to be open and fit, and usable, and how the reasons 21, 22 and 10 come before any other. Assumes nothing.
 use mathlib.Core.Path.{_≡_, refl, sym, ap, _∙_}
-use mathlib.Core.Logic.{_≢_}
+use mathlib.Core.Logic.{_≢_, _⊎_, inl, inr}
 use mathlib.Core.List.{List, _++_}
 use mathlib.Core.Bool.{Bool, true, false, _&&_, _||_, not, true≢false}
 use Prim.Native.Nat.{ℕ, _+_, _-_}
@@ -47,6 +47,18 @@ fit-true rec h =
       ne-eqb (rec .t) 0 (omega arith),
       rw (admitted-admits (rec .t) (rec .r) a, ne-eqb (rec .r) 0 (omega arith), eq-eqb (rec .words) (rec .clean + rec .«corrected_binary» + rec .«corrected_pairs») (h .sums)),
     )
+
+-- one of two tests holds
+pub or-either : (a b : Bool) → (a || b) ≡ true → (a ≡ true) ⊎ (b ≡ true)
+or-either true b e = inl refl
+or-either false b e = inr e
+
+pub or-left : (a b : Bool) → a ≡ true → (a || b) ≡ true
+or-left a b e = ap (λ (c : Bool). c || b) e
+
+pub or-right : (a b : Bool) → b ≡ true → (a || b) ≡ true
+or-right true b e = refl
+or-right false b e = e
 
 pub or-false : (a b : Bool) → (a || b) ≡ false → (a ≡ false) × (b ≡ false)
 or-false true b e = absurd (true≢false e)

@@ -9,13 +9,14 @@ use borrow.Author.Tests.{eqb-true, eqb-false, not-true, not-false}
 use lib.Dec.{eqb}
 use lib.ListN.{length, take}
 use lib.Seq.{length-take-le}
+use Rattle.group_theory.proofs.Signs.{both}
 use Rattle.coder_theory.specs.State.{Usable, placesIn, correctedOldPlaceIn, messageIn, isCodewordIn}
 use Rattle.coder_theory.specs.Reasons.{Reason, firstReason, wrongLength, shortOutput, leftOut, badPlace, badByte, full}
 use Rattle.coder_theory.specs.Calls.{stateReasons, wordReasons, syndromeAnswer, codewordAnswer, shown, writeReasons, encodeReasons, encodeAnswer}
 use Rattle.coder_theory.specs.Calls.{correctReasons, correctAnswer, combineReasons, combineAnswer, invertReasons, invertAnswer, thirdReasons, thirdAnswer}
 use Rattle.coder_theory.specs.Demand1.{Lowest, TellsPlace, TellsPlaceOfTwo}
 use Rattle.coder_theory.specs.declared.Record.{Record}
-use Rattle.coder_theory.proofs.Firsts.{and-true, NoneApplies, AllTell, no-place, none-accepted, first-tells}
+use Rattle.coder_theory.proofs.Firsts.{NoneApplies, AllTell, no-place, none-accepted, first-tells}
 use Rattle.coder_theory.proofs.Bytes.{none-bits, lowest}
 use Rattle.coder_theory.proofs.Outcomes.{if-refused, word-accepted, shown-codeword}
 
@@ -43,8 +44,8 @@ silent (x ∷ xs) = eqb (x .place) 0 && (not (eqb (x .number) 4) && silent xs)
 after-silent : (T : ℕ → ℕ → Type 0) → ((n : ℕ) → n ≢ 4 → T n 0) → (xs ys : List Reason) → silent xs ≡ true → AllTell T ys → AllTell T (xs ++ ys)
 after-silent T told [] ys e h = h
 after-silent T told (x ∷ xs) ys e h =
-    let a = and-true (eqb (x .place) 0) (not (eqb (x .number) 4) && silent xs) e in
-    let b = and-true (not (eqb (x .number) 4)) (silent xs) (a .1) in (
+    let a = both (eqb (x .place) 0) (not (eqb (x .number) 4) && silent xs) e in
+    let b = both (not (eqb (x .number) 4)) (silent xs) (a .1) in (
       (λ y. subst (T (x .number)) (sym (eqb-true (x .place) 0 (a .0))) (told (x .number) (eqb-false (x .number) 4 (not-true (eqb (x .number) 4) (b .0))))),
       λ y. after-silent T told xs ys (b .1) h,
     )

@@ -84,11 +84,11 @@ pub modulus-pos : (a b i : ℕ) → 0 < radix (getD (moduli a b) i one)
 modulus-pos a b i = radix-small (getD (moduli a b) i one) .0
 
 -- ---- the definitions by index
-getD-tl : (x : List ℕ) (i : ℕ) → getD (tl x) i 0 ≡ getD x (suc i) 0
+pub getD-tl : (x : List ℕ) (i : ℕ) → getD (tl x) i 0 ≡ getD x (suc i) 0
 getD-tl [] i = refl
 getD-tl (x ∷ e) i = refl
 
-getD-hd : (x : List ℕ) → hd x ≡ getD x 0 0
+pub getD-hd : (x : List ℕ) → hd x ≡ getD x 0 0
 getD-hd [] = refl
 getD-hd (x ∷ e) = refl
 

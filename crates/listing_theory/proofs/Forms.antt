@@ -8,13 +8,14 @@ use native.Mathlib.Omega.{arith}
 use borrow.Author.Tests.{le-leb, leb-true, eqb-true}
 use lib.Dec.{leb, eqb}
 use lib.ListN.{length}
+use Rattle.group_theory.proofs.Signs.{both}
 use Rattle.layout_theory.specs.Choice.{pick}
 use Rattle.listing_theory.specs.Decimal.{isDigit, value}
 use Rattle.listing_theory.specs.Form.{leadingDigits, afterDigits, oneToFour, isEnd, readSecond, readRest, readLine}
 use Rattle.listing_theory.specs.Spelling.{Digits, none, more, Number, Spells}
 use Rattle.listing_theory.specs.declared.Line.{Line}
 use Rattle.listing_theory.specs.declared.Line.the-variants.{Read, Malformed}
-use Rattle.listing_theory.proofs.Cases.{truth, both, never}
+use Rattle.listing_theory.proofs.Cases.{truth, never}
 use Rattle.listing_theory.proofs.Digits.{leading-digit, leading-other, after-digit, after-other, split}
 
 -- digits that a byte of another kind ends are the leading ones

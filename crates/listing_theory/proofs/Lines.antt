@@ -8,10 +8,10 @@ use borrow.Author.Tests.{leb-true, eq-eqb, ne-eqb}
 use lib.Dec.{eqb, leb}
 use lib.ListN.{length, take, drop, getD, length-append, length-drop}
 use lib.Seq.{take-at, drop-at, take-all}
+use Rattle.group_theory.proofs.Signs.{both}
 use Rattle.listing_theory.specs.Decimal.{value}
 use Rattle.listing_theory.specs.Form.{leadingDigits, afterDigits, oneToFour, isEnd, readSecond, readRest, readLine}
 use Rattle.listing_theory.specs.declared.Line.the-variants.{Read, Malformed}
-use Rattle.listing_theory.proofs.Cases.{both}
 use Rattle.listing_theory.proofs.Digits.{split}
 
 pub end-one : (s : List ℕ) → length s ≡ 1 → eqb (getD s 0 0) 10 ≡ isEnd s

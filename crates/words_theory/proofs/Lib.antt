@@ -6,8 +6,8 @@
 -- For the code as well: Syndromes (the syndrome of any bytes, by its parts), OtherHalf (the other half of a pair, by index), TwoOnes (the word
 -- with two ones), Shapes (the numbers of a code).
 pub mod Reading
-pub mod Adding
 pub mod Combining
+pub mod Adding
 pub mod Flips
 pub mod Perfect
 pub mod Rule
