@@ -101,21 +101,21 @@ module _ (rec : Record) (f : Usable rec) where
   unfolding placesIn correctedIn correctedOldPlaceIn
   corrected-word w h q = word-of rec f (correctedIn rec w) (nearest-in rec w f h .codeword q) .places
 
-  behind : (w out : List ℕ) → IsWord rec w → drop (wordPlaces rec) (correctOutput rec w out) ≡ drop (wordPlaces rec) out
+  behind : (w out : List ℕ) → drop (wordPlaces rec) (correctOutput rec w out) ≡ drop (wordPlaces rec) out
   unfolding placesIn
-  behind w out h = go (correctAnswer rec w out .refusal) refl
+  behind w out = go (correctAnswer rec w out .refusal) refl
     where
       go : (n : ℕ) → correctAnswer rec w out .refusal ≡ n → drop (wordPlaces rec) (correctOutput rec w out) ≡ drop (wordPlaces rec) out
       go zero e =
           let a = accepts rec .correct w out .0 e in
-          let q = kept rec w f h (a .3) in
-          ap (drop (wordPlaces rec)) (correct-accepts rec w out f (a .4) q h (a .2) .1)
-          ∙ front (wordPlaces rec) (correctedIn rec w) out (corrected-word w h q) .1
+          let q = kept rec w f (a .1) (a .3) in
+          ap (drop (wordPlaces rec)) (correct-accepts rec w out f (a .4) q (a .1) (a .2) .1)
+          ∙ front (wordPlaces rec) (correctedIn rec w) out (corrected-word w (a .1) q) .1
       go (suc n) e = ap (drop (wordPlaces rec)) (correct-untouched rec w out (λ z. let c : suc n ≡ 0 = sym e ∙ z in omega arith) .0)
 
-  corrects : (w out : List ℕ) → IsWord rec w → CorrectsIn rec w out
+  corrects : (w out : List ℕ) → CorrectsIn rec w out
   unfolding counted isBinaryIn isPairedIn
-  corrects w out h = record { further = behind w out h; adds = stepped rec w out; one = one-of rec w out }
+  corrects w out = record { further = behind w out; adds = stepped rec w out; one = one-of rec w out }
 
 pub demand2 : Demand2
 unfolding placesIn messageIn
@@ -127,7 +127,7 @@ demand2 rec f =
       test = says-codeword rec f;
       reads = λ w c. reading-accepts rec w f (word-of rec f w c) (zero-of rec f w c) .0;
       encodes = λ m out h l. encodes rec m out f h l;
-      corrects = λ w out h l. corrects rec f w out h;
+      corrects = corrects rec f;
       combines = λ x y out h k l. combines rec x y out f h k l;
       inverts = λ w out h l. inverts rec w out f h l;
       thirds = λ i j a b n. thirds rec i j f (a .0) (a .1) (b .0) (b .1) n;

@@ -22,11 +22,12 @@ use Rattle.shortened_theory.proofs.Encodings.{fill-encode}
 use Rattle.shortened_theory.proofs.Between.{zero-allowed}
 use Rattle.shortened_theory.proofs.Theorem.{shortened-code}
 use Rattle.shortened_theory.proofs.Whole.{new-zero, none-left, element-zero, place-zero, third-zero, encode-zero, combine-zero, inverse-zero}
-use Rattle.coder_theory.specs.State.{Usable, RecordOf, moduliIn, placesIn, messageIn, elementIn, syndromeIn, numberIn, isCodewordIn, thirdIn, thirdOldPlaceIn, fullCount}
+use Rattle.coder_theory.specs.State.{Usable, RecordOf, moduliIn, placesIn, messageIn, elementIn, syndromeIn, numberIn, isCodewordIn, correctedOldPlaceIn, thirdIn, thirdOldPlaceIn, fullCount}
 use Rattle.coder_theory.specs.Calls.{wordLength, messageLength, elementAnswer, syndromeAnswer, codewordAnswer, encodeOutput, correctAnswer, combineOutput, invertOutput, thirdAnswer}
 use Rattle.coder_theory.specs.Demand1.{IsPlace}
 use Rattle.coder_theory.specs.Demand2.{Falls, Shortens, Shortening}
 use Rattle.coder_theory.specs.Demand3.{OwnRecord}
+use Rattle.coder_theory.specs.Demand3Shortened.{HasNear}
 use Rattle.coder_theory.specs.declared.Record.{Record}
 use Rattle.coder_theory.specs.declared.Answer.{Answer}
 use Rattle.coder_theory.specs.declared.Corrected.{Corrected}
@@ -35,6 +36,8 @@ use Rattle.coder_theory.proofs.Answers.{usable-length}
 use Rattle.coder_theory.proofs.Refusals.{tells}
 use Rattle.coder_theory.proofs.Corrections.{left-true, left-false, nearest-in}
 use Rattle.coder_theory.proofs.Accepted.{syndrome-accepts, codeword-accepts, third-accepts, third-left}
+use Rattle.coder_theory.proofs.Accepts.{accepts, has}
+use Rattle.coder_theory.proofs.Refused.{refused}
 use Rattle.coder_theory.proofs.Does.{encode-does, combine-does, invert-does, correct-does, left-does}
 
 -- ---- a place that falls in a left-out place, and one that does not
@@ -45,11 +48,18 @@ falls-out s x p q l e = record {
   kept = λ z. absurd (omega arith);
 }
 
-stays-in : (s x p q : ℕ) → (LeftOut s q → ⊥) → x ≡ 0 → oldPlace s p ≡ q → Falls s x p q
-stays-in s x p q never e r = record {
-  left = ((λ z. absurd (omega arith)), λ l. absurd (never l));
-  none = λ z h. sym r ∙ ap (oldPlace s) h;
-  kept = λ z h. sym r ∙ old-sum s p (λ n. omega arith);
+zero-eleven : _≡_ {A = ℕ} 0 11 → ⊥
+zero-eleven e = omega arith
+
+-- a word that has a codeword within one place is not refused with 11
+never-eleven : (rec : Record) (w out : List ℕ) → correctAnswer rec w out .refusal ≡ 11 → HasNear (rec .t) (rec .r) (rec .s) w → ⊥
+never-eleven rec w out z = refused rec .correct w out .numbers .1 .1 .1 .1 .1 .1 .0 .0 z .1
+
+stays-in : (s x p q : ℕ) → (LeftOut s q → ⊥) → x ≢ 11 → (x ≡ 0 → oldPlace s p ≡ q) → Falls s x p q
+stays-in s x p q never other r = record {
+  left = ((λ z. absurd (other z)), λ l. absurd (never l));
+  none = λ z h. sym (r z) ∙ ap (oldPlace s) h;
+  kept = λ z h. sym (r z) ∙ old-sum s p (λ n. omega arith);
 }
 
 module _ (rec whole : Record) (f : Usable rec) (c : RecordOf (rec .t) (rec .r) 0 whole) where
@@ -193,10 +203,10 @@ module _ (rec whole : Record) (f : Usable rec) (c : RecordOf (rec .t) (rec .r) 0
       correct-does none (own-whole v l) (fill (rec .s) w) u (none-left _) g (by-n (less (q .isWord))) .2
       ∙ place-zero ms (fill (rec .s) w)
 
-  corrects : (w out v : List ℕ) → Word k w → k ≤ length out → n ≤ length v → rec .words ≢ fullCount → whole .words ≢ fullCount
+  corrects : (w out v : List ℕ) → Word k w → k ≤ length out → n ≤ length v → whole .words ≢ fullCount
       → Falls (rec .s) (correctAnswer rec w out .refusal) (correctAnswer rec w out .place) (correctAnswer whole (fill (rec .s) w) v .place)
-  unfolding old placesIn
-  corrects w out v h l l′ u u′ =
+  unfolding old placesIn correctedOldPlaceIn
+  corrects w out v h l l′ u′ =
       subst (Falls (rec .s) (correctAnswer rec w out .refusal) (correctAnswer rec w out .place)) (sym (whole-place w v h l′ u′)) (go (isLeftOut (rec .s) (old w)) refl)
     where
       go : (b : Bool) → isLeftOut (rec .s) (old w) ≡ b → Falls (rec .s) (correctAnswer rec w out .refusal) (correctAnswer rec w out .place) (old w)
@@ -206,8 +216,10 @@ module _ (rec whole : Record) (f : Usable rec) (c : RecordOf (rec .t) (rec .r) 0
       go false y =
           let q = left-false (rec .s) (old w) y in
           let m = nearest-in rec w f h in
-          let d = correct-does (f .allowed) (own out l) w u q h (by-t (fill-word (lengthOf ms) (rec .s) (m .codeword q .isWord))) in
-          stays-in (rec .s) _ _ _ q (d .0) (ap (oldPlace (rec .s)) (d .2) ∙ m .renumbered q)
+          stays-in (rec .s) _ _ _ q (λ z. never-eleven rec w out z (has rec w f h q))
+          (λ z.
+          let u = accepts rec .correct w out .0 z .4 in
+          ap (oldPlace (rec .s)) (correct-does (f .allowed) (own out l) w u q h (by-t (fill-word (lengthOf ms) (rec .s) (m .codeword q .isWord))) .2) ∙ m .renumbered q)
 
   -- ---- the third place likewise
   module _ (i j : ℕ) (a : IsPlace rec i) (b : IsPlace rec j) (d : i ≢ j) where
@@ -245,7 +257,7 @@ module _ (rec whole : Record) (f : Usable rec) (c : RecordOf (rec .t) (rec .r) 0
         go false y =
             let q = left-false (rec .s) third-old y in
             let e = third-accepts rec i j f (a .0) (a .1) (b .0) (b .1) d q in
-            stays-in (rec .s) _ _ _ q (ap (λ (x : Answer). x .refusal) e) (ap (λ (x : Answer). oldPlace (rec .s) (x .place)) e ∙ old-new (rec .s) third-old q)
+            stays-in (rec .s) _ _ _ q (λ z. zero-eleven (sym (ap (λ (x : Answer). x .refusal) e) ∙ z)) (λ z. ap (λ (x : Answer). oldPlace (rec .s) (x .place)) e ∙ old-new (rec .s) third-old q)
 
   all-of : Shortens rec whole
   unfolding wordLength messageLength placesIn messageIn

@@ -121,7 +121,7 @@ pub record Demand2In (rec : Record) : Type 0 where
   pub test : (w : List ℕ) → (codewordAnswer rec w .yes ≡ true) ↔ CodewordIn rec w
   pub reads : (w : List ℕ) → CodewordIn rec w → shown rec w ≡ take (messagePlaces rec) w
   pub encodes : (m out : List ℕ) → IsMessage rec m → HasRoom rec out → Encodes rec m out
-  pub corrects : (w out : List ℕ) → IsWord rec w → HasRoom rec out → CorrectsIn rec w out
+  pub corrects : (w out : List ℕ) → CorrectsIn rec w out
   pub combines : (x y out : List ℕ) → IsWord rec x → IsWord rec y → HasRoom rec out → Combines rec x y out
   pub inverts : (w out : List ℕ) → IsWord rec w → HasRoom rec out → Inverts rec w out
   pub thirds : (i j : ℕ) → IsPlace rec i → IsPlace rec j → i ≢ j → Thirds rec i j
@@ -151,7 +151,7 @@ pub record Shortens (rec all : Record) : Type 0 where
       → filledIn rec (firstBytes rec (combineOutput rec x y out)) ≡ take (placesOf (rec .t)) (combineOutput all (filledIn rec x) (filledIn rec y) v)
   pub inverts : (w out v : List ℕ) → IsWord rec w → HasRoom rec out → placesOf (rec .t) ≤ length v
       → filledIn rec (firstBytes rec (invertOutput rec w out)) ≡ take (placesOf (rec .t)) (invertOutput all (filledIn rec w) v)
-  pub corrects : (w out v : List ℕ) → IsWord rec w → HasRoom rec out → placesOf (rec .t) ≤ length v → rec .words ≢ 4294967295 → all .words ≢ 4294967295
+  pub corrects : (w out v : List ℕ) → IsWord rec w → HasRoom rec out → placesOf (rec .t) ≤ length v → all .words ≢ 4294967295
       → Falls (rec .s) (correctAnswer rec w out .refusal) (correctAnswer rec w out .place) (correctAnswer all (filledIn rec w) v .place)
   pub thirds : (i j : ℕ) → IsPlace rec i → IsPlace rec j → i ≢ j
       → Falls (rec .s) (thirdAnswer rec i j .refusal) (thirdAnswer rec i j .place) (thirdAnswer all (i + rec .s) (j + rec .s) .place)
