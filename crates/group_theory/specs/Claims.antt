@@ -1,5 +1,6 @@
 -- What the theorems on the group say: `group-laws : Groups`, for every list of moduli, `moduli-are : Moduli` (proofs/Theorem),
--- `unit-elements : UnitElements` (proofs/Components) and `size-moduli : Sizes` (proofs/Numbers). "The coder relies on its stated laws, never on how it adds." (document 01). Assumes nothing.
+-- `unit-elements : UnitElements` (proofs/Components) and `size-moduli : Sizes` (proofs/Numbers). "The coder relies on its stated laws, never on
+-- how it adds." (document 01). Assumes nothing.
 use mathlib.Core.Path.{_≡_}
 use mathlib.Core.Logic.{_≢_, _↔_}
 use mathlib.Core.Bool.{true}
