@@ -4,7 +4,7 @@
  * A code is a set of binary words of n places. Every binary word of n places is a codeword or differs in exactly
  * one place from exactly one codeword; so a single flipped place is always corrected, and two flipped ones never are.
  *
- * Parameters. Each call names its code by t and r. Admitted are t from 2 to 10 with 2 <= r <= t <= 2r. r given as 0
+ * Parameters. Each call names its code by t and r. Admitted are t from 2 to 10 with 1 <= r <= t <= 2r. r given as 0
  * stands for r = t (the Hamming code, its places in this library's order). The number of places is n = 2^t - 1. A
  * message has n - t places, and a codeword begins with its message. Codes with the same t and different r have the
  * same lengths but different codewords.

@@ -170,6 +170,7 @@ static void document_cases(void)
     for (size_t i = 0; i < sizeof encoded / sizeof *encoded; i++)
         expect_digits(ENCODE, 3, 2, encoded[i][0], "", 0, encoded[i][1]);
     expect_digits(ENCODE, 2, 2, "1", "", 0, "111");
+    expect_digits(ENCODE, 2, 1, "1", "", 0, "111");
     expect_digits(CORRECT, 3, 2, "0011110", "", 3, "0001110");
     expect_digits(CORRECT, 3, 2, "0000011", "", 1, "1000011");
     expect_digits(CORRECT, 3, 2, "0000001", "", 7, "0000000");
@@ -278,7 +279,7 @@ int main(void)
             }
         }
     }
-    CHECK(codes == 2 * (33 + 9), "%d codes", codes);
+    CHECK(codes == 2 * (34 + 9), "%d codes", codes);
     puts("calls_test: all checks hold");
     return 0;
 }

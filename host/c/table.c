@@ -113,7 +113,7 @@ struct table *table_prepare(uint32_t t, uint32_t r)
 {
     if (r == 0)
         r = t;
-    if (t < 2 || t > 10 || r < 2 || r > t || t > 2 * r)
+    if (t < 2 || t > 10 || r < 1 || r > t || t > 2 * r)
         return NULL;
     struct table *s = calloc(1, sizeof *s);
     if (s == NULL)

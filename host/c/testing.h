@@ -92,7 +92,7 @@ static inline struct buffer random_word(size_t length)
 
 static inline int is_admitted(uint32_t t, uint32_t r)
 {
-    return 2 <= t && t <= 10 && (r == 0 || (2 <= r && r <= t && t <= 2 * r));
+    return 2 <= t && t <= 10 && (r == 0 || (1 <= r && r <= t && t <= 2 * r));
 }
 
 #endif

@@ -133,7 +133,7 @@ pub equal-applies : (i j : ℕ) → (equalPlaces i j .applies ≡ true) ↔ (i �
 equal-applies i j = ((λ e. eqb-true i j e), (λ e. eq-eqb i j e))
 
 -- ---- none of this is empty: every admitted pair opens with every allowed s, with r = t for r = 0, and the record is usable
-in-force : (t r : ℕ) → 2 ≤ r → inForce t r ≡ r
+in-force : (t r : ℕ) → 1 ≤ r → inForce t r ≡ r
 in-force t zero h = absurd (omega arith)
 in-force t (suc r) h = refl
 

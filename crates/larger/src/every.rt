@@ -1,5 +1,5 @@
-// Every word of the codes of at most twelve places that (3,2), (4,2), (4,3) and (4,4) are shortened to, each
-// corrected with the record that the word before it left, into an output of sevens. A line for each code: t, r,
+// Every word of the codes of at most twelve places that (2,1), (3,2), (4,2), (4,3) and (4,4) are shortened to,
+// each corrected with the record that the word before it left, into an output of sevens. A line for each code: t, r,
 // s, the places of a word, the record's counts, how many words were refused with 11, and a digest of the
 // refusals, the places told and every byte of the outputs.
 use crate::alter::front;
@@ -19,6 +19,7 @@ struct Seen {
 }
 
 pub(crate) fn words() {
+    with_each_s(2, 1);
     with_each_s(3, 2);
     with_each_s(4, 2);
     with_each_s(4, 3);

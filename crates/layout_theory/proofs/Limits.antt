@@ -1,9 +1,13 @@
--- The range of t and r: the inequality, the test for it, and document 01's examples, computed by the test. Assumes nothing.
+-- The range of t and r: the inequality, the test for it, the pair that request C-11 adds, and document 01's examples, computed by the test.
+-- Assumes nothing.
 use mathlib.Core.Path.{_≡_, refl, sym, _∙_}
 use mathlib.Core.Bool.{false, true≢false}
+use mathlib.Core.Logic.{_⊎_, inl, inr}
 use Prim.Native.Nat.{ℕ}
+use native.Mathlib.Omega.{arith}
+use native.Mathlib.Decide.{ℕ-discrete}
 use Rattle.layout_theory.specs.Parameters.{Admitted, admits}
-use Rattle.layout_theory.specs.Claims.{AdmittedRange, Limits}
+use Rattle.layout_theory.specs.Claims.{AdmittedRange, FromTwo, OnePairMore, Limits}
 use Rattle.layout_theory.proofs.Parameters.{admits-admitted, admitted-admits}
 
 pub admitted-range : AdmittedRange
@@ -22,13 +26,29 @@ not-admitted t r e h = true≢false (sym (admitted-admits t r h) ∙ e)
 pub limits : Limits
 unfolding admits
 limits = record {
+  in21 = admits-admitted 2 1 refl;
   in22 = admits-admitted 2 2 refl;
   in42 = admits-admitted 4 2 refl;
   in105 = admits-admitted 10 5 refl;
   in1010 = admits-admitted 10 10 refl;
   out11 = not-admitted 1 1 refl;
-  out21 = not-admitted 2 1 refl;
   out52 = not-admitted 5 2 refl;
   out116 = not-admitted 11 6 refl;
   out45 = not-admitted 4 5 refl;
 }
+
+-- where r is 1, t is 2
+pub one-pair-more : OnePairMore
+unfolding admits
+one-pair-more = record { range = λ t r. (old t r, new t r); new = λ h. omega arith }
+  where
+    old : (t r : ℕ) → Admitted t r → FromTwo t r ⊎ ((t ≡ 2) × (r ≡ 1))
+    old t r h = go (ℕ-discrete r 1)
+      where
+        go : Dec (r ≡ 1) → FromTwo t r ⊎ ((t ≡ 2) × (r ≡ 1))
+        go (yes e) = inr (omega arith, e)
+        go (no n) = inl (h .least, h .most, omega (arith, n), h .within, h .twice)
+
+    new : (t r : ℕ) → FromTwo t r ⊎ ((t ≡ 2) × (r ≡ 1)) → Admitted t r
+    new t r (inl h) = record { least = h .0; most = h .1; binary = let b = h .2 in omega arith; within = h .3; twice = h .4 }
+    new t r (inr e) = rw (e .0, e .1) (admits-admitted 2 1 refl)

@@ -24,27 +24,27 @@ use Rattle.layout_theory.proofs.Sizes.{twos, fours, halves, length-sing
 pub admits-admitted : (t r : ℕ) → admits t r ≡ true → Admitted t r
 unfolding admits
 admits-admitted t r e =
-    let a = both (leb 2 t) (leb t longest && (leb 2 r && (leb r t && leb t (2 * r)))) e in
-    let b = both (leb t longest) (leb 2 r && (leb r t && leb t (2 * r))) (a .1) in
-    let c = both (leb 2 r) (leb r t && leb t (2 * r)) (b .1) in
-    let d = both (leb r t) (leb t (2 * r)) (c .1) in
+    let a = both _ _ e in
+    let b = both _ _ (a .1) in
+    let c = both _ _ (b .1) in
+    let d = both _ _ (c .1) in
     record {
-      least = leb-true 2 t (a .0);
-      most = leb-true t longest (b .0);
-      binary = leb-true 2 r (c .0);
-      within = leb-true r t (d .0);
-      twice = leb-true t (2 * r) (d .1);
+      least = leb-true _ _ (a .0);
+      most = leb-true _ _ (b .0);
+      binary = leb-true _ _ (c .0);
+      within = leb-true _ _ (d .0);
+      twice = leb-true _ _ (d .1);
     }
 
 pub admitted-admits : (t r : ℕ) → Admitted t r → admits t r ≡ true
 unfolding admits
 admitted-admits t r h =
     rw (
-      le-leb 2 t (h .least),
-      le-leb t longest (h .most),
-      le-leb 2 r (h .binary),
-      le-leb r t (h .within),
-      le-leb t (2 * r) (h .twice),
+      le-leb _ _ (h .least),
+      le-leb _ _ (h .most),
+      le-leb _ _ (h .binary),
+      le-leb _ _ (h .within),
+      le-leb _ _ (h .twice),
     )
 
 pub below-power : (t : ℕ) → t < 2 ^ t

@@ -23,7 +23,7 @@ pub fn admitted(t: u32, r: u32) -> bool
     if LONGEST < t {
         return false;
     }
-    if r < 2 {
+    if r < 1 {
         return false;
     }
     if t < r {

@@ -24,6 +24,7 @@ fn long() {
 }
 
 fn good() {
+    show(b"2 1\n");
     show(b"2 2\n");
     show(b"0003 02\n");
     show(b"2 0\n");

@@ -1,11 +1,12 @@
--- Document 01's cases marked P, for (3,2), "as a single table about the definitions". The theorem is `table : Table` (proofs/Table). Assumes
--- nothing.
+-- Document 01's cases marked P, for (3,2), "as a single table about the definitions", and what request C-11 prints of (2,1). The theorems are
+-- `table : Table` and `length-three : LengthThree` (proofs/Table). Assumes nothing.
 use mathlib.Core.Path.{_≡_}
 use mathlib.Core.List.{List, [], _∷_}
 use Prim.Native.Nat.{ℕ}
 use Rattle.group_theory.specs.Group.{Modulus, number}
 use Rattle.layout_theory.specs.Parameters.{moduliFor}
 use Rattle.layout_theory.specs.Layout.{slots}
+use Rattle.layout_theory.specs.Claims.{layoutNumbers}
 use Rattle.words_theory.specs.Words.{combine}
 use Rattle.words_theory.specs.Syndrome.{syndrome}
 use Rattle.words_theory.specs.Coding.{encode, corrected, correctedPlace, third}
@@ -40,3 +41,7 @@ Table =
     × (third code32 1 2 ≡ 5)
     × (third code32 3 6 ≡ 2)
     × (third code32 3 5 ≡ 7)
+
+-- "Its layout is 2 3 1 and message 1 encodes to 111."
+abbrev pub LengthThree : Type 0
+LengthThree = (layoutNumbers 2 1 ≡ 2 ∷ 3 ∷ 1 ∷ []) × (encode (moduliFor 2 1) (1 ∷ []) ≡ 1 ∷ 1 ∷ 1 ∷ [])

@@ -17,36 +17,41 @@ twice t r h =
     (λ e. let k = leb-true (t - r) r e in le-leb t (2 * r) (omega arith))
     (λ e. let k = leb-true t (2 * r) e in le-leb (t - r) r (omega arith))
 
--- past the second test t is in use
+-- what is past the first test, the second and the third
+from-two : (c : tie.Else1) → leb 2 (c .before .args .t) ≡ true
+from-two c = le-leb 2 (c .before .args .t) (let h = c .if1 .left in omega arith)
+
 in-use : (c : tie.Else2) → leb (c .before .before .args .t) longest ≡ true
 in-use c = le-leb (c .before .before .args .t) longest (let h = c .if2 .left in omega arith)
 
+from-one : (c : tie.Else3) → leb 1 (c .before .before .before .args .r) ≡ true
+from-one c = le-leb 1 (c .before .before .before .args .r) (let h = c .if3 .left in omega arith)
+
 returns : tie.Need-returns
 unfolding admits
-returns c = rw (lt-leb _ _ (c .if1 .taken))
+returns c = rw (lt-leb 2 (c .before .args .t) (let h = c .if1 .taken in omega arith))
 
 returns-2 : tie.Need-returns-2
 unfolding admits
-returns-2 c = rw (le-leb _ _ (c .before .if1 .left), lt-leb (c .before .before .args .t) longest (let h = c .if2 .taken in omega arith))
+returns-2 c = rw (from-two (c .before), lt-leb (c .before .before .args .t) longest (let h = c .if2 .taken in omega arith))
 
 returns-3 : tie.Need-returns-3
 unfolding admits
-returns-3 c = rw (le-leb _ _ (c .before .before .if1 .left), in-use (c .before), lt-leb _ _ (c .if3 .taken))
+returns-3 c =
+    let s = c .before in
+    rw (from-two (s .before), in-use s, lt-leb 1 (s .before .before .args .r) (let h = c .if3 .taken in omega arith))
 
 returns-4 : tie.Need-returns-4
 unfolding admits
 returns-4 c =
     let s = c .before .before in
-    rw
-    (le-leb _ _ (s .before .if1 .left), in-use s, le-leb _ _ (c .before .if3 .left), lt-leb _ _ (c .if4 .taken))
+    rw (from-two (s .before), in-use s, from-one (c .before), lt-leb _ _ (c .if4 .taken))
 
 returns-5 : tie.Need-returns-5
 unfolding admits
 returns-5 c =
     let s = c .before .before in
-    rw
-    (le-leb _ _ (s .before .if1 .left), in-use s, le-leb _ _ (c .before .if3 .left), le-leb _ _ (c .if4 .left))
-    (twice _ _ (c .if4 .left))
+    rw (from-two (s .before), in-use s, from-one (c .before), le-leb _ _ (c .if4 .left)) (twice _ _ (c .if4 .left))
 
 pub admitted-spec : {M : Type 1} → statement M
 admitted-spec = tie.close (tie.spec returns returns-2 returns-3 returns-4 returns-5)

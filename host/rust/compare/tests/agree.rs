@@ -12,7 +12,7 @@ const TIMES: u64 = 3_000;
 #[test]
 fn millions_of_calls() {
     let Plan { codes, cells } = Plan::new();
-    assert_eq!(codes.len(), 33);
+    assert_eq!(codes.len(), 34);
     let calls = TIMES * (codes.len() * cells.len()) as u64;
     assert!(calls >= 5_000_000);
     let asked = Run {

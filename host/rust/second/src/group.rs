@@ -14,6 +14,18 @@ pub struct Group {
     quaternary: usize,
 }
 
+/// The group of the code with t and r, none where they are not admitted. In the paper's table of
+/// parameters the row of t has a type for each group of 2^t elements, t = a + 2b, with r = a + b:
+/// at t = 2 the types (1, 1, 0), which is r = 1, and (3, 0, 0). The rows in use are 2 to 10.
+pub fn of_code(t: u32, r: u32) -> Option<Group> {
+    if !(2..=10).contains(&t) {
+        return None;
+    }
+    let mut row = (0..=t / 2).map(|b| (t - 2 * b, b));
+    let (a, b) = row.find(|(a, b)| a + b == r)?;
+    Some(Group::new(a as usize, b as usize))
+}
+
 impl Group {
     pub fn new(binary: usize, quaternary: usize) -> Group {
         assert!(binary + quaternary <= ZERO.len());

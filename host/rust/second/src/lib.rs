@@ -63,10 +63,7 @@ impl Code {
     /// Opens the code of t and r with the first s places left out; r = 0 means r = t.
     pub fn open(t: u32, r: u32, s: u32) -> Result<Code, Refusal> {
         let r = if r == 0 { t } else { r };
-        if !(2..=10).contains(&t) || !(2..=t).contains(&r) || t > 2 * r {
-            return Err(Refusal::of(1));
-        }
-        let group = Group::new((2 * r - t) as usize, (t - r) as usize);
+        let group = group::of_code(t, r).ok_or(Refusal::of(1))?;
         let images = layout::images(&group);
         let whole = Code::from_images(t, r, group, images);
         whole.shortened(s)

@@ -58,6 +58,7 @@ mod tests {
     #[test]
     fn sheets() {
         assert_eq!(text(b"3 2\n"), SHEET_3_2);
+        assert_eq!(text(b"2 1\n"), "code 2 1 3 1\n1 2\n2 3\n3 1\n");
         assert_eq!(text(b"2 2\n"), "code 2 2 3 1\n1 3\n2 1\n3 2\n");
         let sheet = text(b"4 2\n");
         assert!(sheet.starts_with("code 4 2 15 11\n1 2\n2 8\n3 10\n4 15\n5 5\n6 14\n"));
@@ -92,7 +93,7 @@ mod tests {
 
     #[test]
     fn parameters_not_admitted() {
-        all_print(b"0 0\n|1 1\n|2 1\n|5 2\n|4 5\n|0 3\n", "refused 1\n");
+        all_print(b"0 0\n|1 1\n|5 2\n|4 5\n|0 3\n", "refused 1\n");
         all_print(b"11 6\n|11 0\n|259 258\n|9999 9999\n", "refused 1\n");
     }
 

@@ -28,14 +28,38 @@ fn is_rising(numbers: &[u32]) -> bool {
 
 #[test]
 fn the_admitted_pairs() {
-    let least_r = [2, 2, 2, 3, 3, 4, 4, 5, 5];
+    let least_r = [1, 2, 2, 3, 3, 4, 4, 5, 5];
     let mut pairs = Vec::new();
     for (t, least) in (2..=10).zip(least_r) {
         pairs.extend((least..=t).map(|r| (t, r)));
     }
-    assert_eq!(pairs.len(), 33);
+    assert_eq!(pairs.len(), 34);
     let opened: Vec<(u32, u32)> = codes().iter().map(|code| (code.t(), code.r())).collect();
     assert_eq!(opened, pairs);
+}
+
+/// The rows that the paper prints, t = 2 to 6: a type is so many binary places and so many pairs.
+#[test]
+fn the_types_of_the_paper() {
+    let printed = [
+        vec![(1, 1), (3, 0)],
+        vec![(3, 2), (7, 0)],
+        vec![(3, 6), (7, 4), (15, 0)],
+        vec![(7, 12), (15, 8), (31, 0)],
+        vec![(7, 28), (15, 24), (31, 16), (63, 0)],
+    ];
+    for (t, types) in (2..).zip(printed) {
+        let mut row = codes();
+        row.retain(|code| code.t() == t);
+        let opened: Vec<(usize, usize)> = row.iter().map(binary_and_pairs).collect();
+        assert_eq!(opened, types, "t = {t}");
+    }
+}
+
+fn binary_and_pairs(code: &Code) -> (usize, usize) {
+    let places = 1..=code.length() as u32;
+    let binary = places.filter(|&place| code.is_binary(place)).count();
+    (binary, (code.length() - binary) / 2)
 }
 
 #[test]

@@ -1,4 +1,4 @@
-//! Every word, message and pair of places of the six codes with n <= 15.
+//! Every word, message and pair of places of the seven codes with n <= 15.
 
 use super::{all_words, codes, combine, correct, encode, flipped, invert};
 use second::Code;
@@ -6,7 +6,7 @@ use second::Code;
 fn small_codes() -> Vec<Code> {
     let mut small = codes();
     small.retain(|code| code.length() <= 15);
-    assert_eq!(small.len(), 6);
+    assert_eq!(small.len(), 7);
     small
 }
 

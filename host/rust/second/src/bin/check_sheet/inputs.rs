@@ -130,8 +130,8 @@ mod tests {
     fn every_code_and_both_refusals() {
         let texts: BTreeSet<String> = all().iter().map(|input| sheet::text(input)).collect();
         let is_sheet = |text: &&String| text.starts_with("code ");
-        assert_eq!(texts.iter().filter(is_sheet).count(), 33);
-        assert_eq!(texts.len(), 33 + 2);
+        assert_eq!(texts.iter().filter(is_sheet).count(), 34);
+        assert_eq!(texts.len(), 34 + 2);
         assert!(texts.contains("refused 1\n") && texts.contains("refused 7\n"));
     }
 

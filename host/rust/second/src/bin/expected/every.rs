@@ -1,5 +1,5 @@
-//! Every word of the codes of at most twelve places that (3,2), (4,2), (4,3) and (4,4) are
-//! shortened to. What correction has to give is found by looking through all codewords, and
+//! Every word of the codes of at most twelve places that (2,1), (3,2), (4,2), (4,3) and (4,4)
+//! are shortened to. What correction has to give is found by looking through all codewords, and
 //! these by trying all words: no call of correction is made here.
 
 use crate::digest::Digest;
@@ -11,7 +11,7 @@ const ROOM: usize = 16;
 
 pub fn words() -> String {
     let mut text = String::new();
-    for (t, r) in [(3, 2), (4, 2), (4, 3), (4, 4)] {
+    for (t, r) in [(2, 1), (3, 2), (4, 2), (4, 3), (4, 4)] {
         let opened = (0..=15).filter_map(|s| Code::open(t, r, s).ok());
         for code in opened.filter(|code| code.length() <= 12) {
             text += &line(&code);
