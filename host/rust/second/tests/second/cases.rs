@@ -1,9 +1,10 @@
-//! Every case of document 01 that this program has a call for.
+//! Every case of document 01 that this program has a call for, and those of request C-11.
 
 use super::{combine, correct, encode, flipped, invert, layout, open, word};
 
 #[test]
 fn layouts() {
+    assert_eq!(layout(&open(2, 1)), [2, 3, 1]);
     assert_eq!(layout(&open(2, 2)), [3, 1, 2]);
     assert_eq!(layout(&open(3, 2)), [4, 5, 7, 3, 1, 6, 2]);
     assert_eq!(
@@ -18,6 +19,7 @@ fn parameters() {
         let code = open(t, r);
         (code.t(), code.r(), code.length(), code.message_length())
     };
+    assert_eq!(sizes(2, 1), (2, 1, 3, 1));
     assert_eq!(sizes(2, 2), (2, 2, 3, 1));
     assert_eq!(sizes(3, 2), (3, 2, 7, 4));
     assert_eq!(sizes(4, 2), (4, 2, 15, 11));
@@ -48,7 +50,8 @@ fn encoding_in_3_2() {
 }
 
 #[test]
-fn encoding_in_2_2() {
+fn encoding_in_2_1_and_2_2() {
+    assert_eq!(encode(&open(2, 1), &word("1")), word("111"));
     assert_eq!(encode(&open(2, 2), &word("1")), word("111"));
 }
 

@@ -94,6 +94,7 @@ fn opening() {
     assert_eq!(reason(5, 2, 1), refused(1));
     assert_eq!(reason(3, 2, 3), refused(10));
     assert_eq!(reason(3, 3, 4), refused(10));
+    assert_eq!(reason(2, 1, 1), refused(10));
     assert_eq!(reason(2, 2, 1), refused(10));
     // s is judged with the r in force: in (3,2) three places would cut a pair.
     let code = Code::open(3, 0, 3).expect("r = 3");
