@@ -30,7 +30,7 @@ fn with(t: u32, r: u32, s: u32, x: u32) -> u32 {
 }
 
 // Part 1 has `part` places and a message of the whole code m, of which one has to stay. In between there are
-// pairs, unless it is a Hamming code, where part is m.
+// pairs, unless r = t or t = 2, where part is m.
 fn chosen(i: u32, part: u32, m: u32, x: u32) -> u32 {
     match i {
         0 => 1,
@@ -56,8 +56,8 @@ fn power(r: u32) -> u32 {
     1 << (r % 32)
 }
 
-// That it would wrap spares a proof that it does not. One difference does: m - 2 in (2,2), which gives one
-// more s that is not allowed.
+// That it would wrap spares a proof that it does not. One difference does: m - 2 where t = 2, which gives
+// one more s that is not allowed.
 fn plus(a: u32, b: u32) -> u32 {
     std::num::wrapping_add_u32(a, b)
 }

@@ -15,8 +15,9 @@ pub struct Group {
 }
 
 /// The group of the code with t and r, none where they are not admitted. In the paper's table of
-/// parameters the row of t has a type for each group of 2^t elements, t = a + 2b, with r = a + b:
-/// at t = 2 the types (1, 1, 0), which is r = 1, and (3, 0, 0). The rows in use are 2 to 10.
+/// parameters the row of t has a type for each such group of 2^t elements: t = a + 2b, r = a + b.
+/// At t = 2 the types are (1, 1, 0) and (3, 0, 0); the first has r = 1, which the row's column of
+/// r leaves out by a slip. The rows in use are 2 to 10.
 pub fn of_code(t: u32, r: u32) -> Option<Group> {
     if !(2..=10).contains(&t) {
         return None;

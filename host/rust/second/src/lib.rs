@@ -2,8 +2,9 @@
 //! Characterization of 1-Perfect Additive Codes" (source document 000).
 //!
 //! This second program is there to be compared with the engine, so it shares no code or table
-//! with it: it has only the paper's array, sums over it and searches in it. Parameters,
-//! element numbers, order of places and refusals are those of document 01.
+//! with it: it has only the paper's array, sums over it and searches in it. Which r a t has
+//! is told by the paper's table of parameters; the largest t, element numbers, order of
+//! places and refusals are those of document 01.
 //!
 //! A shortened code has the array without its first s entries, and everything else follows
 //! from that array: lengths, places, pairs, and which elements are missing.

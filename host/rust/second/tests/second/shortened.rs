@@ -228,7 +228,7 @@ fn as_in_the_whole_code() {
         let drawn = (0..20).map(|_| draw.below(whole.message_length()) as u32);
         let some: Vec<u32> = [0, 1].into_iter().chain(drawn).collect();
         let opened: Vec<Code> = some.iter().flat_map(|&s| Code::open(t, r, s)).collect();
-        // A message of (2,2) has one place; every other code begins with part 1.
+        // Where t = 2 a message has one place; every other code opens with s = 1.
         assert!(opened.iter().any(|code| code.s() > 0) || t == 2);
         for code in &opened {
             like_the_whole(code, &whole, &mut draw);

@@ -20,12 +20,12 @@ pub fn rounds(whole: &Code, draw: &mut Draw) -> String {
 }
 
 /// Part 1 has k - a places and a message of the whole code m, of which one has to stay. In
-/// between there are pairs, unless it is a Hamming code, where part 1 is all of it.
+/// between there are pairs, unless r = t or t = 2, where part 1 is all of it.
 fn chosen(whole: &Code, turn: u32, draw: &mut Draw) -> u32 {
     let (k, a) = ((1 << whole.r()) - 1, 2 * whole.r() - whole.t());
     let part_1: u32 = k - a;
     let m = whole.message_length() as u32;
-    // Each turn draws; the last three take what they drew. In (2,2) m - 2 wraps.
+    // Each turn draws; the last three take what they drew. Where t = 2, m - 2 wraps.
     let drawn = 1 + draw.below(whole.message_length()) as u32;
     let fixed = [
         1,
