@@ -1,6 +1,6 @@
 // Every word of the codes of at most twelve places that (2,1), (3,2), (4,2), (4,3) and (4,4) are shortened to,
-// each corrected with the record that the word before it left, into an output of sevens. A line for each code: t, r,
-// s, the places of a word, the record's counts, how many words were refused with 11, and a digest of the
+// each corrected with the record that the word before it left, into an output of sevens. A line for each code:
+// t, r, s, the places of a word, the record's counts, how many words were refused with 11, and a digest of the
 // refusals, the places told and every byte of the outputs.
 use crate::alter::front;
 use crate::digest::count;
