@@ -1,9 +1,9 @@
 -- Demand 1 of opening and of the calls on a record, one theorem: `demand1`. Its statement is in specs/Demand1. Assumes nothing.
 use mathlib.Core.Path.{_≡_, refl, sym, ap}
-use mathlib.Core.Logic.{_≢_, _↔_}
+use mathlib.Core.Logic.{_↔_}
 use mathlib.Core.List.{List, []}
 use mathlib.Core.Bool.{Bool, true, false}
-use Prim.Native.Nat.{ℕ, zero, suc}
+use Prim.Native.Nat.{ℕ}
 use Rattle.layout_theory.proofs.Parameters.{admits-admitted, admitted-admits}
 use Rattle.shortened_theory.proofs.Between.{allows-allowed, allowed-allows}
 use Rattle.coder_theory.specs.State.{Usable}
@@ -16,7 +16,7 @@ use Rattle.coder_theory.proofs.Rows.{done, row, by-first}
 use Rattle.coder_theory.proofs.States.{state-clear, true-usable}
 use Rattle.coder_theory.proofs.Answers.{opened-yes, element-told, unusable-length}
 use Rattle.coder_theory.proofs.Outcomes.{says-yes, shown-no, word-accepted}
-use Rattle.coder_theory.proofs.Refusals.{one-applies, allowed-applies, encode-untouched, correct-untouched, combine-untouched, invert-untouched, opened-fresh, opened-admits, opens-not}
+use Rattle.coder_theory.proofs.Refusals.{one-applies, allowed-applies, encode-untouched, correct-untouched, combine-untouched, invert-untouched, in-force, opened-fresh, opened-admits, opens-not}
 use Rattle.coder_theory.proofs.Told.{syndrome-tells, codeword-tells, encode-tells, correct-tells, combine-tells, invert-tells, third-tells, syndrome-none, codeword-no}
 use Rattle.coder_theory.proofs.Codewords.{says-codeword, shows-codeword}
 use Rattle.coder_theory.proofs.Accepts.{accepts, once-more}
@@ -54,17 +54,13 @@ gives rec =
     }
 
 -- ---- opening
-given : (t r : ℕ) → r ≢ 0 → inForce t r ≡ r
-given t zero h = absurd (h refl)
-given t (suc r) h = refl
-
 opens-with : (t r s : ℕ) → OpensWith t r s
 unfolding opened
 opens-with t r s =
     let k = inForce t r in
     record {
       default = λ e. ap (inForce t) e;
-      given = given t r;
+      given = in-force t r;
       refused = by-first _ (openReasons t r s) _ refl refl refl (row (notAdmitted t k) (λ z. one-applies t k) (row (notAllowed t k s) (λ z. allowed-applies t k s) done));
       accepts = (
         (λ e. let a = opened-admits t r s e in (admits-admitted t k (a .0), allows-allowed t k s (a .1))),

@@ -133,13 +133,13 @@ pub equal-applies : (i j : ℕ) → (equalPlaces i j .applies ≡ true) ↔ (i �
 equal-applies i j = ((λ e. eqb-true i j e), (λ e. eq-eqb i j e))
 
 -- ---- none of this is empty: every admitted pair opens with every allowed s, with r = t for r = 0, and the record is usable
-in-force : (t r : ℕ) → 1 ≤ r → inForce t r ≡ r
-in-force t zero h = absurd (omega arith)
+pub in-force : (t r : ℕ) → r ≢ 0 → inForce t r ≡ r
+in-force t zero h = absurd (h refl)
 in-force t (suc r) h = refl
 
 pub opens : (t r s : ℕ) → Admitted t r → Allowed t r s → opened t r s ≡ record { refusal = 0; «record» = fresh t r s }
 opens t r s h k =
-    let e = in-force t r (h .binary) in
+    let e = in-force t r (λ z. let b = h .binary in omega arith) in
     opened-yes t r s (ap (admits t) e ∙ admitted-admits t r h) (ap (λ (j : ℕ). allows t j s) e ∙ allowed-allows t r s k)
     ∙ ap {B = Opened} (λ (k : ℕ). record { refusal = 0; «record» = fresh t k s }) e
 

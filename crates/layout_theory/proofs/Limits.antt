@@ -40,15 +40,15 @@ limits = record {
 -- where r is 1, t is 2
 pub one-pair-more : OnePairMore
 unfolding admits
-one-pair-more = record { range = λ t r. (old t r, new t r); new = λ h. omega arith }
+one-pair-more = record { range = λ t r. (apart t r, together t r); new = λ h. omega arith }
   where
-    old : (t r : ℕ) → Admitted t r → FromTwo t r ⊎ ((t ≡ 2) × (r ≡ 1))
-    old t r h = go (ℕ-discrete r 1)
+    apart : (t r : ℕ) → Admitted t r → FromTwo t r ⊎ ((t ≡ 2) × (r ≡ 1))
+    apart t r h = go (ℕ-discrete r 1)
       where
         go : Dec (r ≡ 1) → FromTwo t r ⊎ ((t ≡ 2) × (r ≡ 1))
         go (yes e) = inr (omega arith, e)
         go (no n) = inl (h .least, h .most, omega (arith, n), h .within, h .twice)
 
-    new : (t r : ℕ) → FromTwo t r ⊎ ((t ≡ 2) × (r ≡ 1)) → Admitted t r
-    new t r (inl h) = record { least = h .0; most = h .1; binary = let b = h .2 in omega arith; within = h .3; twice = h .4 }
-    new t r (inr e) = rw (e .0, e .1) (admits-admitted 2 1 refl)
+    together : (t r : ℕ) → FromTwo t r ⊎ ((t ≡ 2) × (r ≡ 1)) → Admitted t r
+    together t r (inl h) = record { least = h .0; most = h .1; binary = let b = h .2 in omega arith; within = h .3; twice = h .4 }
+    together t r (inr e) = rw (e .0, e .1) (admits-admitted 2 1 refl)

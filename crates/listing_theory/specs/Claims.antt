@@ -1,7 +1,6 @@
 -- What the theorems on the sheet say, of its bytes. Of specs/Sheet and specs/Form only `sheetText` and `overwrite`, which the contract of
--- `listing::sheet` names, are named: the texts are written out here a
--- second time, so that a change of both the code and its definitions is still refused. 32 is a space, 10 a newline, 48 to 57 are the digits
--- 0 to 9. Assumes nothing.
+-- `listing::sheet` names, are named: the texts are written out here a second time, so that a change of both the code and its definitions is
+-- still refused. 32 is a space, 10 a newline, 48 to 57 are the digits 0 to 9. Assumes nothing.
 use mathlib.Core.Path.{_≡_}
 use mathlib.Core.Logic.{_↔_}
 use mathlib.Core.Bool.{true}

@@ -42,6 +42,6 @@ Table =
     × (third code32 3 6 ≡ 2)
     × (third code32 3 5 ≡ 7)
 
--- "Its layout is 2 3 1 and message 1 encodes to 111."
+-- of (2,1): "Its layout is 2 3 1 and message 1 encodes to 111."
 abbrev pub LengthThree : Type 0
 LengthThree = (layoutNumbers 2 1 ≡ 2 ∷ 3 ∷ 1 ∷ []) × (encode (moduliFor 2 1) (1 ∷ []) ≡ 1 ∷ 1 ∷ 1 ∷ [])
