@@ -2,7 +2,7 @@
 -- it), Flips (one place flipped).
 -- The theorems, for every list of moduli: Perfect and Rule (the one place to flip, and that document 01's rule flips it), Distances (the code
 -- is perfect), Carrying (combining carries correction along), Encoding, Thirds (the third place). Theorem gathers them, there and for
--- admitted t and r. Widths says which places are binary. Table has document 01's cases marked P.
+-- admitted t and r. Widths says which places are binary. Table has document 01's cases marked P and what request C-11 prints.
 -- For the code as well: Syndromes (the syndrome of any bytes, by its parts), OtherHalf (the other half of a pair, by index), TwoOnes (the word
 -- with two ones), Shapes (the numbers of a code).
 pub mod Reading

@@ -17,14 +17,15 @@ fn allowed(t: u32, r: u32) -> Vec<u32> {
         .collect()
 }
 
-/// Every shortened code of (3,2), (4,2), (4,3) and (4,4) whose words have at most 12 places.
+/// Every code of at most 12 places that (2,1), (3,2), (4,2), (4,3) and (4,4) are shortened to.
 fn short_codes() -> Vec<Code> {
-    let pairs = [(3, 2), (4, 2), (4, 3), (4, 4)];
+    let pairs = [(2, 1), (3, 2), (4, 2), (4, 3), (4, 4)];
     let opened = |(t, r)| (0..1u32 << t).filter_map(move |s| Code::open(t, r, s).ok());
     let mut short: Vec<Code> = pairs.into_iter().flat_map(opened).collect();
     short.retain(|code| code.length() <= 12);
     let lengths: Vec<usize> = short.iter().map(Code::length).collect();
-    let expected: [&[usize]; 4] = [
+    let expected: [&[usize]; 5] = [
+        &[3],
         &[7, 6, 5],
         &[12, 10, 8, 6],
         &[12, 11, 10, 8, 6],
@@ -53,6 +54,7 @@ fn place_between(first: &[u8], second: &[u8]) -> u32 {
 
 #[test]
 fn the_allowed_s() {
+    assert_eq!(allowed(2, 1), [0]);
     assert_eq!(allowed(2, 2), [0]);
     assert_eq!(allowed(3, 2), [0, 1, 2]);
     assert_eq!(allowed(3, 3), [0, 1, 2, 3]);
