@@ -1,6 +1,6 @@
 /*
  * calls_test.c: the four calls of z2z4.h on good and bad input: every reason and every meeting of reasons, document
- * 01's cases, and what each code promises, for all t and r from 0 to 12 and some huge ones.
+ * 01's cases, that r = 0 is r = t, and what each code promises, for all t and r from 0 to 12 and some huge ones.
  *
  * It ends at the first check that fails. `make check` runs it with gcc's sanitizers, which watch this file but not the
  * library (gcc does not compile it), and under valgrind, which watches both.
@@ -233,6 +233,27 @@ static void combine_promise(uint32_t t, uint32_t r, struct buffer *x, size_t fur
     release(&out);
 }
 
+/* r = 0 is r = t in each call, whether or not t is admitted: the same answer, and the same bytes. */
+static void zero_is_t(uint32_t t)
+{
+    size_t n = t <= 12 ? Z2Z4_LENGTH(t) : 1023, message = n - (t <= 12 ? t : 10);
+    for (int round = 0; round < 12; round++) {
+        enum call call = round % 3;
+        struct buffer x = faulty_word(call == ENCODE ? message : n, EXACT, round < 9 ? GOOD : LAST_BAD), y = random_word(n);
+        struct buffer zero = fresh(n + 2), twice = fresh(n + 2);
+        int32_t answer = make_call(call, t, t, &x, &y, &twice);
+        CHECK(make_call(call, t, 0, &x, &y, &zero) == answer, "call %d, t = %u: not %d", call, t, answer);
+        memcpy(zero.kept, twice.at, twice.length);
+        check_kept(&zero, "the output for r = 0");
+        uint32_t i = below((uint32_t)n + 2), j = below((uint32_t)n + 2);
+        CHECK(z2z4_third_place(t, 0, i, j) == z2z4_third_place(t, t, i, j), "t = %u, places %u %u", t, i, j);
+        release(&x);
+        release(&y);
+        release(&zero);
+        release(&twice);
+    }
+}
+
 /* A codeword begins with its message, is clean, and comes back after any one flip: of each place up to n = 127. */
 static void promises(uint32_t t, uint32_t r)
 {
@@ -270,6 +291,8 @@ int main(void)
     for (int pass = 0; pass < 2; pass++) {
         guarded = pass == 0;
         document_cases();
+        for (size_t i = 0; i < VALUES; i++)
+            zero_is_t(value[i]);
         for (size_t i = 0; i < VALUES * VALUES; i++) {
             uint32_t t = value[i / VALUES], r = value[i % VALUES];
             refusals(t, r);

@@ -21,8 +21,8 @@ pub use coder_theory::Opened;
 pub use coder_theory::Record;
 pub use coder_theory::TestAnswer;
 
-// A record for the code with t and r, shortened by s; r = 0 means r = t. Refused with 1 where t and r
-// are not admitted, and with 10 where s is not allowed.
+// A record for the code with t and r, shortened by s; r = 0 means the smallest admitted r, half of t
+// rounded up. Refused with 1 where t and r are not admitted, and with 10 where s is not allowed.
 pub fn open(t: u32, r: u32, s: u32) -> Opened
     ensures { λ x. ⌜ x ≡ opened t r s ⌝ }
 {
@@ -288,7 +288,7 @@ pub fn third_place(record: Record, i: u32, j: u32) -> Answer
 fn in_force(t: u32, r: u32) -> u32
     ensures { λ x. ⌜ x ≡ inForce t r ⌝ }
 {
-    if r == 0 { t } else { r }
+    if r == 0 { t / 2 + t % 2 } else { r }
 }
 
 fn new_record(t: u32, r: u32, s: u32) -> Record

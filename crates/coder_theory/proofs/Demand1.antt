@@ -1,15 +1,18 @@
 -- Demand 1 of opening and of the calls on a record, one theorem: `demand1`. Its statement is in specs/Demand1. Assumes nothing.
-use mathlib.Core.Path.{_≡_, refl, sym, ap}
+use mathlib.Core.Path.{_≡_, refl, sym, ap, _∙_}
 use mathlib.Core.Logic.{_↔_}
 use mathlib.Core.List.{List, []}
 use mathlib.Core.Bool.{Bool, true, false}
 use Prim.Native.Nat.{ℕ}
+use native.Mathlib.Omega.{arith}
+use Rattle.layout_theory.specs.Parameters.{smallestR}
 use Rattle.layout_theory.proofs.Parameters.{admits-admitted, admitted-admits}
-use Rattle.shortened_theory.proofs.Between.{allows-allowed, allowed-allows}
+use Rattle.layout_theory.proofs.Limits.{smallest-r}
+use Rattle.shortened_theory.proofs.Between.{allows-allowed, allowed-allows, zero-allowed}
 use Rattle.coder_theory.specs.State.{Usable}
 use Rattle.coder_theory.specs.Reasons.{notAdmitted, notAllowed, firstReason}
 use Rattle.coder_theory.specs.Calls.{inForce, openReasons, opened, stateReasons, ifUsable, wordLength, messageLength, codewordAnswer, shown}
-use Rattle.coder_theory.specs.Demand1.{CodewordIn, RefusalGives, OpensWith, Demand1}
+use Rattle.coder_theory.specs.Demand1.{CodewordIn, RefusalGives, OpensWith, OpensWithZero, Demand1}
 use Rattle.coder_theory.specs.declared.Record.{Record}
 use Rattle.coder_theory.specs.declared.Opened.{Opened}
 use Rattle.coder_theory.proofs.Rows.{done, row, by-first}
@@ -70,9 +73,35 @@ opens-with t r s =
       closed = opens-not t r s;
     }
 
+-- opening with r depends on the r in force alone
+opened-same : (t r r′ s : ℕ) → inForce t r ≡ inForce t r′ → opened t r s ≡ opened t r′ s
+unfolding opened
+opened-same t r r′ s e = rw e
+
+opens-with-zero : (t s : ℕ) → OpensWithZero t s
+opens-with-zero t s =
+    record {
+      smallest = λ k h.
+          let a = h .admitted in
+          let b = smallest-r t (a .least) (a .most) .smallest in
+          let x = b .least k a in
+          let y = h .least (smallestR t) (b .admitted) in
+          let e : smallestR t ≡ k = omega arith in
+          opened-same t 0 k s (e ∙ sym (in-force t k (λ z. let i = a .binary in omega arith)));
+      refused = (
+        (λ e h. opens-with t 0 s .refused .numbers .0 .0 e .1 (smallest-r t (h .0) (h .1) .smallest .admitted)),
+        λ never. opens-with t 0 s .refused .numbers .0 .1 (tt, λ a. never (a .least, a .most)),
+      );
+      accepts = (
+        (λ e. let a = opens-with t 0 0 .accepts .0 e .0 in (a .least, a .most)),
+        λ h. let a = smallest-r t (h .0) (h .1) .smallest .admitted in opens-with t 0 0 .accepts .1 (a, zero-allowed t (smallestR t) a),
+      );
+    }
+
 pub demand1 : Demand1
 demand1 = record {
   opening = opens-with;
+  openingZero = opens-with-zero;
   refused = refused;
   accepts = accepts;
   gives = gives;

@@ -9,7 +9,7 @@ use native.Mathlib.Omega.{arith}
 use lib.Dec.{eqb, ltb}
 use lib.ListN.{length}
 use borrow.Author.Tests.{eqb-true, eqb-false, ltb-true, eq-eqb, ne-eqb, lt-ltb, not-true}
-use Rattle.layout_theory.specs.Parameters.{Admitted, admits}
+use Rattle.layout_theory.specs.Parameters.{Admitted, admits, orHamming}
 use Rattle.layout_theory.proofs.Parameters.{admits-admitted, admitted-admits}
 use Rattle.words_theory.specs.Words.{Bits}
 use Rattle.shortened_theory.specs.Allowed.{Allowed, allows}
@@ -132,7 +132,7 @@ byte-applies w = (
 pub equal-applies : (i j : ℕ) → (equalPlaces i j .applies ≡ true) ↔ (i ≡ j)
 equal-applies i j = ((λ e. eqb-true i j e), (λ e. eq-eqb i j e))
 
--- ---- none of this is empty: every admitted pair opens with every allowed s, with r = t for r = 0, and the record is usable
+-- ---- none of this is empty: every admitted pair opens with every allowed s, and the record is usable
 pub in-force : (t r : ℕ) → r ≢ 0 → inForce t r ≡ r
 in-force t zero h = absurd (h refl)
 in-force t (suc r) h = refl
@@ -144,9 +144,18 @@ opens t r s h k =
     ∙ ap {B = Opened} (λ (k : ℕ). record { refusal = 0; «record» = fresh t k s }) e
 
 -- with s = 0 every admitted pair does
-pub opens-zero : (t r : ℕ) → Admitted t (inForce t r) → opened t r 0 ≡ record { refusal = 0; «record» = fresh t (inForce t r) 0 }
-opens-zero t r h =
-    opened-yes t r 0 (admitted-admits t (inForce t r) h) (allowed-allows t (inForce t r) 0 (zero-allowed t (inForce t r) h))
+pub opens-zero : (t r : ℕ) → Admitted t r → opened t r 0 ≡ record { refusal = 0; «record» = fresh t r 0 }
+opens-zero t r h = opens t r 0 h (zero-allowed t r h)
+
+-- where 0 was turned into r = t, opening has no default to take: r is 0 only where t is, and half of that is 0 too
+pub turned : (t r : ℕ) → inForce t (orHamming t r) ≡ orHamming t r
+turned zero zero = refl
+turned (suc t) zero = refl
+turned t (suc r) = refl
+
+-- so it is refused where t and that r are not admitted
+pub opens-never : (t r s : ℕ) → admits t (orHamming t r) ≡ false → opened t (orHamming t r) s ≡ record { refusal = 1; «record» = fresh 0 0 0 }
+opens-never t r s h = opened-no t (orHamming t r) s (ap (admits t) (turned t r) ∙ h)
 
 -- a refused opening gives the closed record with every field 0
 pub opens-not : (t r s : ℕ) → opened t r s .refusal ≢ 0 → opened t r s .«record» ≡ fresh 0 0 0

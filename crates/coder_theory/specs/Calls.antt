@@ -4,6 +4,7 @@ use mathlib.Core.List.{List, [], _∷_, _++_}
 use Prim.Native.Nat.{ℕ, zero, suc}
 use lib.ListN.{length, take, drop}
 use Rattle.layout_theory.specs.Choice.{pick}
+use Rattle.layout_theory.specs.Parameters.{smallestR}
 use Rattle.coder_theory.specs.State.{fresh, isUsable, placesIn, messageIn, elementIn, syndromeIn, numberIn, isCodewordIn, encodedIn}
 use Rattle.coder_theory.specs.State.{correctedIn, correctedPlaceIn, correctedOldPlaceIn, combineIn, inverseIn, thirdIn, thirdOldPlaceIn, counted}
 use Rattle.coder_theory.specs.Reasons.{Reason, firstReason, notAdmitted, notAllowed, leftOut, wrongLength, shortOutput, badByte, outside, equalPlaces, closed, unfit, full}
@@ -24,9 +25,9 @@ abbrev pub stateReasons : Record → List Reason
 stateReasons rec = closed rec ∷ unfit rec ∷ notAllowed (rec .t) (rec .r) (rec .s) ∷ []
 
 -- ---- opening
--- "r given as 0 means r = t, the Hamming code."
+-- "From now on 0 means the smallest admitted r, half of t rounded up." (request C-13)
 abbrev pub inForce : ℕ → ℕ → ℕ
-inForce t zero = t
+inForce t zero = smallestR t
 inForce t (suc r) = suc r
 
 abbrev pub openReasons : ℕ → ℕ → ℕ → List Reason

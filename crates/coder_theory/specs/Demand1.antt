@@ -10,7 +10,8 @@ use Prim.Native.Nat.{ℕ, _+_, _-_, _<_, _≤_}
 use lib.Dec.{eqb}
 use lib.ListN.{length, getD}
 use Rattle.layout_theory.specs.Choice.{pick}
-use Rattle.layout_theory.specs.Parameters.{Admitted, placesOf, messageOf, moduliFor}
+use Rattle.layout_theory.specs.Parameters.{longest, Admitted, smallestR, placesOf, messageOf, moduliFor}
+use Rattle.layout_theory.specs.Claims.{SmallestFor}
 use Rattle.words_theory.specs.Words.{Bits, Word}
 use Rattle.shortened_theory.specs.Allowed.{Allowed}
 use Rattle.shortened_theory.specs.Code.{ShortenedCodeword}
@@ -172,8 +173,8 @@ pub record RefusalGives (rec : Record) : Type 0 where
 
 -- ---- opening: "1. Parameters not admitted", and 10 after it, both of the r in force
 pub record OpensWith (t r s : ℕ) : Type 0 where
-  -- "r given as 0 means r = t"
-  pub default : r ≡ 0 → inForce t r ≡ t
+  -- "0 means the smallest admitted r, half of t rounded up" (request C-13)
+  pub default : r ≡ 0 → inForce t r ≡ smallestR t
   pub given : r ≢ 0 → inForce t r ≡ r
   pub refused : Refused (opened t r s .refusal) ((1, (Admitted t (inForce t r) → ⊥)) ∷ (10, (Allowed t (inForce t r) s → ⊥)) ∷ [])
   pub accepts : (opened t r s .refusal ≡ 0) ↔ (Admitted t (inForce t r) × Allowed t (inForce t r) s)
@@ -184,8 +185,17 @@ pub record OpensWith (t r s : ℕ) : Type 0 where
   pub closed : opened t r s .refusal ≢ 0
       → opened t r s .«record» ≡ record { t = 0; r = 0; s = 0; words = 0; clean = 0; «corrected_binary» = 0; «corrected_pairs» = 0 }
 
+-- opening with r = 0
+pub record OpensWithZero (t s : ℕ) : Type 0 where
+  -- it is opening with the smallest r that is admitted with t; every t from 2 to the largest in use has one (`smallest-r`)
+  pub smallest : (k : ℕ) → SmallestFor t k → opened t 0 s ≡ opened t k s
+  -- it is refused with 1 exactly where t is not admitted, and with s = 0 for no other reason
+  pub refused : (opened t 0 s .refusal ≡ 1) ↔ ((2 ≤ t) × (t ≤ longest) → ⊥)
+  pub accepts : (opened t 0 0 .refusal ≡ 0) ↔ ((2 ≤ t) × (t ≤ longest))
+
 pub record Demand1 : Type 0 where
   pub opening : (t r s : ℕ) → OpensWith t r s
+  pub openingZero : (t s : ℕ) → OpensWithZero t s
   pub refused : (rec : Record) → RefusedIn rec
   pub accepts : (rec : Record) → AcceptsIn rec
   pub gives : (rec : Record) → RefusalGives rec

@@ -41,7 +41,7 @@ fn open(t: u32, r: u32)
     openings::with_each_s(t, r);
     let o = coder::open(t, r, 0);
     lines::opening(t, r, 0, o);
-    // r = 0 stands for r = t, whose rounds come under that r.
+    // r = 0 opens a code whose rounds come under the r in force.
     if r == 0 {
         return;
     }

@@ -1,13 +1,13 @@
--- The range of t and r: the inequality, the test for it, the pair that request C-11 adds, and document 01's examples, computed by the test.
--- Assumes nothing.
+-- The range of t and r: the inequality, the test for it, the pair that request C-11 adds, the smallest r of each t, and document 01's examples,
+-- computed by the test; and an r that is given is not turned. Assumes nothing.
 use mathlib.Core.Path.{_≡_, refl, sym, _∙_}
 use mathlib.Core.Bool.{false, true≢false}
-use mathlib.Core.Logic.{_⊎_, inl, inr}
-use Prim.Native.Nat.{ℕ}
+use mathlib.Core.Logic.{_≢_, _⊎_, inl, inr}
+use Prim.Native.Nat.{ℕ, zero, suc, _+_, _*_}
 use native.Mathlib.Omega.{arith}
 use native.Mathlib.Decide.{ℕ-discrete}
-use Rattle.layout_theory.specs.Parameters.{Admitted, admits}
-use Rattle.layout_theory.specs.Claims.{AdmittedRange, FromTwo, OnePairMore, Limits}
+use Rattle.layout_theory.specs.Parameters.{Admitted, admits, smallestR, orHamming}
+use Rattle.layout_theory.specs.Claims.{AdmittedRange, FromTwo, OnePairMore, Smallest, Limits}
 use Rattle.layout_theory.proofs.Parameters.{admits-admitted, admitted-admits}
 
 pub admitted-range : AdmittedRange
@@ -52,3 +52,22 @@ one-pair-more = record { range = λ t r. (apart t r, together t r); new = λ h. 
     together : (t r : ℕ) → FromTwo t r ⊎ ((t ≡ 2) × (r ≡ 1)) → Admitted t r
     together t r (inl h) = record { least = h .0; most = h .1; binary = let b = h .2 in omega arith; within = h .3; twice = h .4 }
     together t r (inr e) = rw (e .0, e .1) (admits-admitted 2 1 refl)
+
+pub smallest-r : Smallest
+smallest-r t l m =
+    record {
+      smallest = record {
+        admitted = record { least = l; most = m; binary = omega arith; within = omega arith; twice = omega arith };
+        least = λ r h. let k = h .twice in omega arith;
+      };
+      half = go (ℕ-discrete (2 * smallestR t) t);
+    }
+  where
+    go : Dec (2 * smallestR t ≡ t) → (2 * smallestR t ≡ t) ⊎ (2 * smallestR t ≡ t + 1)
+    go (yes e) = inl e
+    go (no n) = inr (omega (arith, n))
+
+-- an r that is given is the one that is meant
+pub or-given : (t r : ℕ) → r ≢ 0 → orHamming t r ≡ r
+or-given t zero h = absurd (h refl)
+or-given t (suc r) h = refl

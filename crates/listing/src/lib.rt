@@ -19,6 +19,9 @@ pub fn sheet(input: &[u8], out: &mut [u8]) -> usize
     let line = read::line(input);
     match line {
         Line::Malformed => write::refusal(out, 7),
-        Line::Read { t, r } => write::answer(out, coder::open(t, r, 0)),
+        Line::Read { t, r } => {
+            let used = parameters::or_hamming(t, r);
+            write::answer(out, coder::open(t, used, 0))
+        }
     }
 }

@@ -3,6 +3,7 @@ use mathlib.Core.Path.{_≡_}
 use mathlib.Core.List.{List}
 use Prim.Native.Nat.{ℕ}
 use borrow.Author.Tests.{eq-eqb, ne-eqb}
+use Rattle.layout_theory.specs.Parameters.{orHamming}
 use Rattle.coder_theory.specs.Calls.{opened}
 use Rattle.coder_theory.specs.declared.Opened.{Opened}
 use Rattle.listing_theory.specs.Form.{readLine}
@@ -23,6 +24,7 @@ module _ (input : List ℕ) (l : Line) (e : l ≡ readLine input) where
   unfolding sheetText lineText
   sheet-malformed m = rw (← e, m)
 
-  pub sheet-read : (t r : ℕ) → l ≡ Read t r → answerText (opened t r 0) ≡ sheetText input
+  -- k is the r that is opened with
+  pub sheet-read : (t r k : ℕ) → l ≡ Read t r → k ≡ orHamming t r → answerText (opened t k 0) ≡ sheetText input
   unfolding sheetText lineText
-  sheet-read t r m = rw (← e, m)
+  sheet-read t r k m u = rw (← e, m, u)

@@ -4,6 +4,7 @@ use mathlib.Core.List.{List, [], _∷_, _++_}
 use Prim.Native.Nat.{ℕ, zero, suc, _+_}
 use lib.Dec.{eqb}
 use Rattle.layout_theory.specs.Choice.{pick}
+use Rattle.layout_theory.specs.Parameters.{orHamming}
 use Rattle.coder_theory.specs.Calls.{opened, elementAnswer, wordLength, messageLength}
 use Rattle.coder_theory.specs.declared.Record.{Record}
 use Rattle.coder_theory.specs.declared.Opened.{Opened}
@@ -49,10 +50,11 @@ listingText rec = headingText rec ++ placeLines rec 1 (wordLength rec)
 unfoldable pub answerText : Opened → List ℕ
 answerText o = pick (eqb (o .refusal) 0) (listingText (o .«record»)) (refusedLine (o .refusal))
 
--- a line that is not of the form is refused with 7, before the parameters are looked at
+-- a line that is not of the form is refused with 7, before the parameters are looked at; the sheet and the calls for C "turn 0 into r = t
+-- themselves, before opening, so printed sheets stay comparable" (request C-13)
 unfoldable pub lineText : Line → List ℕ
 lineText Malformed = refusedLine 7
-lineText (Read t r) = answerText (opened t r 0)
+lineText (Read t r) = answerText (opened t (orHamming t r) 0)
 
 -- the bytes of the whole output for the bytes of an input
 unfoldable pub sheetText : List ℕ → List ℕ

@@ -29,6 +29,7 @@ fn good() {
     show(b"0003 02\n");
     show(b"2 0\n");
     show(b"4 0\n");
+    show(b"9 0\n");
     show(b"0002 0000\n");
 }
 

@@ -1,10 +1,12 @@
-// The calls for C, by t and r, with no record: each opens a record, and is the coder's call with it.
+// The calls for C, by t and r, with no record: each opens a record, r = 0 meaning r = t, and is the
+// coder's call with it.
 // They answer 0 or a place, and a refusal as its negated number. What each answers and writes is
 // defined in crate z2z4_theory, specs/Calls.antt; that it is the coder's call is a theorem there. In C
 // a slice is a pointer and a length (include/z2z4.h). The caller keeps an output apart from what is
 // read.
 ghost use mathlib.Core.Path.{_≡_};
 ghost use Prim.Native.Nat.{_<_, _^_};
+ghost use Rattle.z2z4_theory.specs.Claims.{openedForC};
 ghost use Rattle.z2z4_theory.specs.Calls.{signed, encodeAnswerForC, encodeOutputForC, correctAnswerForC, correctOutputForC, combineAnswerForC, combineOutputForC, thirdAnswerForC};
 
 // The codeword of a message, at the front of `out`. Answers 0, or −1, −2, −3 or −4.
@@ -13,7 +15,7 @@ pub extern "C" fn z2z4_encode(t: u32, r: u32, message: &[u8], out: &mut [u8]) ->
     ensures answer { λ x. ⌜ x ≡ encodeAnswerForC t r (now (message .entry)) (now (out .entry)) ⌝ }
     ensures bytes { λ x. ⌜ now (out .exit) ≡ encodeOutputForC t r (now (message .entry)) (now (out .entry)) ⌝ }
 {
-    let o = coder::open(t, r, 0);
+    let o = open(t, r);
     let x = o.refusal;
     if x != 0 {
         return answer(x, 0);
@@ -29,7 +31,7 @@ pub extern "C" fn z2z4_correct(t: u32, r: u32, word: &[u8], out: &mut [u8]) -> i
     ensures answer { λ x. ⌜ x ≡ correctAnswerForC t r (now (word .entry)) (now (out .entry)) ⌝ }
     ensures bytes { λ x. ⌜ now (out .exit) ≡ correctOutputForC t r (now (word .entry)) (now (out .entry)) ⌝ }
 {
-    let o = coder::open(t, r, 0);
+    let o = open(t, r);
     let x = o.refusal;
     if x != 0 {
         return answer(x, 0);
@@ -44,7 +46,7 @@ pub extern "C" fn z2z4_combine(t: u32, r: u32, first: &[u8], second: &[u8], out:
     ensures answer { λ x. ⌜ x ≡ combineAnswerForC t r (now (first .entry)) (now (second .entry)) (now (out .entry)) ⌝ }
     ensures bytes { λ x. ⌜ now (out .exit) ≡ combineOutputForC t r (now (first .entry)) (now (second .entry)) (now (out .entry)) ⌝ }
 {
-    let o = coder::open(t, r, 0);
+    let o = open(t, r);
     let x = o.refusal;
     if x != 0 {
         return answer(x, 0);
@@ -58,13 +60,21 @@ pub extern "C" fn z2z4_combine(t: u32, r: u32, first: &[u8], second: &[u8], out:
 pub extern "C" fn z2z4_third_place(t: u32, r: u32, i: u32, j: u32) -> i32
     ensures { λ x. ⌜ x ≡ thirdAnswerForC t r i j ⌝ }
 {
-    let o = coder::open(t, r, 0);
+    let o = open(t, r);
     let x = o.refusal;
     if x != 0 {
         return answer(x, 0);
     }
     let p = coder::third_place(o.record, i, j);
     answer(p.refusal, p.place)
+}
+
+// The record of a call: opening's own default for r = 0 is another.
+fn open(t: u32, r: u32) -> coder::Opened
+    ensures { λ x. ⌜ x ≡ openedForC t r ⌝ }
+{
+    let used = parameters::or_hamming(t, r);
+    coder::open(t, used, 0)
 }
 
 // A refusal negated, or where there is none the place.

@@ -7,13 +7,13 @@ use Prim.Native.Nat.{ℕ, zero, suc, _<_, _≤_}
 use lib.ListN.{length, drop}
 use lib.IntN.{pos}
 use borrow.Author.Tests.{eqb-false, ltb-false, not-false, ne-eqb, le-ltb}
-use Rattle.layout_theory.specs.Parameters.{Admitted, admits, placesOf, messageOf}
+use Rattle.layout_theory.specs.Parameters.{Admitted, admits, orHamming, placesOf, messageOf}
 use Rattle.layout_theory.proofs.Parameters.{admits-admitted, admitted-admits}
 use Rattle.words_theory.specs.Words.{Word}
 use Rattle.shortened_theory.proofs.Whole.{new-zero}
 use Rattle.coder_theory.specs.State.{placesIn, messageIn, encodedIn, correctedIn, correctedPlaceIn, combineIn}
 use Rattle.coder_theory.specs.Reasons.{Reason, firstReason, notAdmitted, wrongLength, shortOutput, badByte, outside, equalPlaces}
-use Rattle.coder_theory.specs.Calls.{inForce, writeInput, outputOf}
+use Rattle.coder_theory.specs.Calls.{writeInput, outputOf}
 use Rattle.coder_theory.specs.declared.Record.{Record}
 use Rattle.coder_theory.proofs.Firsts.{none-accepted, accepted-none}
 use Rattle.coder_theory.proofs.Rows.{Rowed, done, row, two, by-first}
@@ -63,7 +63,7 @@ module _ (t r : ℕ) where
 
   write-rows : (n k : ℕ) (w out : List ℕ) → n ≡ k → Rowed (Unit {0}) (callReasons t r (writeInput code n w (length out))) (writeRowsForC t r k w out)
   write-rows n k w out e =
-      row (notAdmitted t (inForce t r)) (λ z. one-applies t (inForce t r))
+      row (notAdmitted t (orHamming t r)) (λ z. one-applies t (orHamming t r))
       (row (wrongLength n w) (λ z. other-length n k w e)
       (row (shortOutput (placesIn code) (length out)) (λ z. too-short out) (row (badByte w) (λ z. byte-applies w) done)))
 
@@ -75,22 +75,22 @@ module _ (t r : ℕ) where
         correct = λ w out. by-first _ (correctReasonsForC t r w (length out)) _ refl refl (tells _ _) (write-rows (placesIn code) (placesOf t) w out all);
         combine = λ x y out.
             by-first _ (combineReasonsForC t r x y (length out)) _ refl refl (tells _ _)
-            (row (notAdmitted t (inForce t r)) (λ z. one-applies t (inForce t r))
+            (row (notAdmitted t (orHamming t r)) (λ z. one-applies t (orHamming t r))
             (two (wrongLength (placesIn code) x) (wrongLength (placesIn code) y) refl (λ z. other-length (placesIn code) (placesOf t) x all) (λ z. other-length (placesIn code) (placesOf t) y all)
             (row (shortOutput (placesIn code) (length out)) (λ z. too-short out)
             (two (badByte x) (badByte y) refl (λ z. byte-applies x) (λ z. byte-applies y) done))));
         third = λ i j.
             by-first _ (thirdReasonsForC t r i j) _ refl refl (tells _ _)
-            (row (notAdmitted t (inForce t r)) (λ z. one-applies t (inForce t r))
+            (row (notAdmitted t (orHamming t r)) (λ z. one-applies t (orHamming t r))
             (two (outside code i) (outside code j) refl (λ z. not-a-place i) (λ z. not-a-place j) (row (equalPlaces i j) (λ z. equal-applies i j) done)));
       }
 
   -- ---- accepted exactly where
-  admitted-by : notAdmitted t (inForce t r) .applies ≡ false → Admitted t (inForce t r)
-  admitted-by e = admits-admitted t (inForce t r) (not-false (admits t (inForce t r)) e)
+  admitted-by : notAdmitted t (orHamming t r) .applies ≡ false → Admitted t (orHamming t r)
+  admitted-by e = admits-admitted t (orHamming t r) (not-false (admits t (orHamming t r)) e)
 
-  by-admitted : Admitted t (inForce t r) → notAdmitted t (inForce t r) .applies ≡ false
-  by-admitted h = ap not (admitted-admits t (inForce t r) h)
+  by-admitted : Admitted t (orHamming t r) → notAdmitted t (orHamming t r) .applies ≡ false
+  by-admitted h = ap not (admitted-admits t (orHamming t r) h)
 
   room-by : (out : List ℕ) → shortOutput (placesIn code) (length out) .applies ≡ false → placesOf t ≤ length out
   room-by out e = subst (λ (k : ℕ). k ≤ length out) all (ltb-false (length out) (placesIn code) e)
@@ -106,7 +106,7 @@ module _ (t r : ℕ) where
 
   write-where : (n k : ℕ) (w out : List ℕ) (p : ℕ) → n ≡ k
       → (refusalOf (signed (firstReason (callReasons t r (writeInput code n w (length out))) .number) p) ≡ 0)
-      ↔ (Admitted t (inForce t r) × Word k w × (placesOf t ≤ length out))
+      ↔ (Admitted t (orHamming t r) × Word k w × (placesOf t ≤ length out))
   write-where n k w out p e = (
     (λ z.
         let h = accepted-none (callReasons t r (writeInput code n w (length out))) refl (sym (tells _ p) ∙ z) in

@@ -9,26 +9,25 @@ use native.Mathlib.Omega.{arith}
 use borrow.Author.Tests.{lt-leb}
 use lib.Dec.{leb}
 use lib.ListN.{length, drop}
-use Rattle.layout_theory.specs.Parameters.{Admitted, admits}
+use Rattle.layout_theory.specs.Parameters.{Admitted, admits, orHamming}
 use Rattle.layout_theory.proofs.Parameters.{admits-admitted}
+use Rattle.layout_theory.proofs.Limits.{or-given}
 use Rattle.shortened_theory.specs.Code.{isLeftOut}
-use Rattle.shortened_theory.proofs.Between.{allowed-allows, zero-allowed}
 use Rattle.coder_theory.specs.State.{Usable, fresh, placesIn, messageIn, encodedIn, correctedIn, correctedPlaceIn, correctedOldPlaceIn, combineIn, thirdIn, thirdOldPlaceIn}
 use Rattle.coder_theory.specs.Reasons.{Reason, firstReason, notAdmitted, leftOut, full}
-use Rattle.coder_theory.specs.Calls.{ifAccepted, inForce, opened, stateReasons, writeInput, combineInput, placesInput, correctReasons, writeReasons, encodeAnswer, encodeOutput, correctAnswer, correctOutput, combineAnswer, combineOutput, thirdAnswer, placesReasons, thirdReasons}
+use Rattle.coder_theory.specs.Calls.{ifAccepted, opened, stateReasons, writeInput, combineInput, placesInput, correctReasons, writeReasons, encodeAnswer, encodeOutput, correctAnswer, correctOutput, combineAnswer, combineOutput, thirdAnswer, placesReasons, thirdReasons}
 use Rattle.coder_theory.specs.declared.Record.{Record}
 use Rattle.coder_theory.specs.declared.Opened.{Opened}
 use Rattle.coder_theory.proofs.Firsts.{NoneApplies, first-yes, first-no, first-end, first-before, first-past, first-last, accepted-none}
 use Rattle.coder_theory.proofs.States.{usable-true, state-past}
-use Rattle.coder_theory.proofs.Answers.{opened-yes, opened-no}
-use Rattle.coder_theory.proofs.Refusals.{opens, opened-fresh, opened-usable}
+use Rattle.coder_theory.proofs.Refusals.{opens-zero, opens-never, turned, opened-fresh, opened-usable}
 use Rattle.coder_theory.proofs.Bounds.{numbers, open-refusal}
 use Rattle.z2z4_theory.specs.Calls.{signed, codeFor, callReasons, encodeAnswerForC, encodeOutputForC, correctAnswerForC, correctOutputForC}
 use Rattle.z2z4_theory.specs.Calls.{combineAnswerForC, combineOutputForC, thirdAnswerForC}
-use Rattle.z2z4_theory.specs.Claims.{AsOpened, encodeTold, correctTold, combineTold, thirdTold, EncodesAsOpened, CorrectsAsOpened, CombinesAsOpened, ThirdAsOpened, AsOpenedCalls, ZeroIsT}
+use Rattle.z2z4_theory.specs.Claims.{openedForC, AsOpened, encodeTold, correctTold, combineTold, thirdTold, EncodesAsOpened, CorrectsAsOpened, CombinesAsOpened, ThirdAsOpened, AsOpenedCalls, ZeroIsT}
 
 -- ---- what a call makes of an opening that answered o: z, where v is what comes of opening
-module _ {A : Type 0} {t r : ℕ} {v z : A} {x : ℕ → A} {f : Record → A} {o : Opened} (a : AsOpened t r v x f) (e : o ≡ opened t r 0) where
+module _ {A : Type 0} {t r : ℕ} {v z : A} {x : ℕ → A} {f : Record → A} {o : Opened} (a : AsOpened t r v x f) (e : o ≡ openedForC t r) where
   pub by-refusal : o .refusal ≢ 0 → z ≡ x (o .refusal) → z ≡ v
   by-refusal h y = y ∙ ap (λ (o : Opened). x (o .refusal)) e ∙ sym (a .refused (λ n. h (ap (λ (o : Opened). o .refusal) e ∙ n)))
 
@@ -37,41 +36,50 @@ module _ {A : Type 0} {t r : ℕ} {v z : A} {x : ℕ → A} {f : Record → A} {
 
 -- admitted t and r are opened
 pub with-fresh : {A : Type 0} (t r : ℕ) → Admitted t r → {v : A} {x : ℕ → A} {f : Record → A} → AsOpened t r v x f → v ≡ f (fresh t r 0)
+unfolding openedForC
 with-fresh t r ok {f = f} a =
-    a .given (ap (λ (o : Opened). o .refusal) (opens t r 0 ok (zero-allowed t r ok))) ∙ ap (λ (o : Opened). f (o .«record»)) (opens t r 0 ok (zero-allowed t r ok))
+    let e = ap (λ (k : ℕ). opened t k 0) (or-given t r (λ z. let i = ok .binary in omega arith)) ∙ opens-zero t r ok in
+    a .given (ap (λ (o : Opened). o .refusal) e) ∙ ap (λ (o : Opened). f (o .«record»)) e
 
 -- opening's refusal can be told as a signed number
-pub open-told : (t r : ℕ) {o : Opened} → o ≡ opened t r 0 → (o .refusal < 2 ^ 31) × (o .refusal ≡ 0 → 0 < 2 ^ 31)
+pub open-told : (t r : ℕ) {o : Opened} → o ≡ openedForC t r → (o .refusal < 2 ^ 31) × (o .refusal ≡ 0 → 0 < 2 ^ 31)
+unfolding openedForC
 open-told t r {o} e =
-    let b : o .refusal < numbers = subst (λ (o : Opened). o .refusal < numbers) (sym e) (open-refusal t r 0) in
+    let b : o .refusal < numbers = subst (λ (o : Opened). o .refusal < numbers) (sym e) (open-refusal t (orHamming t r) 0) in
     (omega arith, (λ z. omega arith))
 
 -- ---- the first reason
 module _ (t r : ℕ) where
   -- 0 is allowed, so that only 1 is left of opening's reasons
   abbrev one : List Reason
-  one = notAdmitted t (inForce t r) ∷ []
+  one = notAdmitted t (orHamming t r) ∷ []
 
-  number-opened : opened t r 0 .refusal ≡ firstReason one .number
-  number-opened = go (admits t (inForce t r)) refl
+  number-opened : openedForC t r .refusal ≡ firstReason one .number
+  unfolding openedForC
+  number-opened = go (admits t (orHamming t r)) refl
     where
-      go : (b : Bool) → admits t (inForce t r) ≡ b → opened t r 0 .refusal ≡ firstReason one .number
+      go : (b : Bool) → admits t (orHamming t r) ≡ b → openedForC t r .refusal ≡ firstReason one .number
       go true y =
-          let ok = admits-admitted t (inForce t r) y in
-          ap (λ (o : Opened). o .refusal) (opened-yes t r 0 y (allowed-allows t (inForce t r) 0 (zero-allowed t (inForce t r) ok)))
-          ∙ sym (ap (λ (x : Reason). x .number) (first-no (notAdmitted t (inForce t r)) [] (ap not y) ∙ first-end))
+          ap (λ (o : Opened). o .refusal) (opens-zero t (orHamming t r) (admits-admitted t (orHamming t r) y))
+          ∙ sym (ap (λ (x : Reason). x .number) (first-no (notAdmitted t (orHamming t r)) [] (ap not y) ∙ first-end))
       go false y =
-          ap (λ (o : Opened). o .refusal) (opened-no t r 0 y)
-          ∙ sym (ap (λ (x : Reason). x .number) (first-yes (notAdmitted t (inForce t r)) [] (ap not y)))
+          ap (λ (o : Opened). o .refusal) (opens-never t r 0 y)
+          ∙ sym (ap (λ (x : Reason). x .number) (first-yes (notAdmitted t (orHamming t r)) [] (ap not y)))
 
-  stopped : (rs : List Reason) → opened t r 0 .refusal ≢ 0 → firstReason (callReasons t r rs) .number ≡ opened t r 0 .refusal
+  -- and the record is that of the code
+  record-opened : openedForC t r .refusal ≡ 0 → openedForC t r .«record» ≡ codeFor t r
+  unfolding openedForC
+  record-opened e = opened-fresh t (orHamming t r) 0 e ∙ ap (λ (k : ℕ). fresh t k 0) (turned t r)
+
+  stopped : (rs : List Reason) → openedForC t r .refusal ≢ 0 → firstReason (callReasons t r rs) .number ≡ openedForC t r .refusal
   stopped rs h =
       ap (λ (x : Reason). x .number) (first-before one rs (λ e. h (number-opened ∙ e))) ∙ sym number-opened
 
   -- neither 21 nor 22 applies to a record just opened
-  past : (rs : List Reason) → opened t r 0 .refusal ≡ 0 → firstReason (callReasons t r rs) ≡ firstReason (stateReasons (codeFor t r) ++ rs)
+  past : (rs : List Reason) → openedForC t r .refusal ≡ 0 → firstReason (callReasons t r rs) ≡ firstReason (stateReasons (codeFor t r) ++ rs)
+  unfolding openedForC
   past rs e =
-      let f = subst Usable (opened-fresh t r 0 e) (opened-usable t r 0 e) in
+      let f = subst Usable (record-opened e) (opened-usable t (orHamming t r) 0 e) in
       first-past one rs (accepted-none one refl (sym number-opened ∙ e))
       ∙ sym (state-past (codeFor t r) rs (usable-true (codeFor t r) f))
 
@@ -81,8 +89,8 @@ module _ (t r : ℕ) where
       → AsOpened t r (f (firstReason (callReasons t r rs) .number)) x g
   made rs f x g same known =
       record {
-        refused = λ h. ap f (stopped rs h) ∙ positive (opened t r 0 .refusal) h;
-        given = λ e. ap (λ (y : Reason). f (y .number)) (past rs e) ∙ known ∙ ap g (sym (opened-fresh t r 0 e));
+        refused = λ h. ap f (stopped rs h) ∙ positive (openedForC t r .refusal) h;
+        given = λ e. ap (λ (y : Reason). f (y .number)) (past rs e) ∙ known ∙ ap g (sym (record-opened e));
       }
     where
       positive : (n : ℕ) → n ≢ 0 → f n ≡ x n

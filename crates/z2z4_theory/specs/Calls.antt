@@ -3,9 +3,10 @@ use mathlib.Core.List.{List, _∷_}
 use Prim.Native.Nat.{ℕ}
 use lib.ListN.{length}
 use lib.IntN.{ℤ, pos, negℤ}
+use Rattle.layout_theory.specs.Parameters.{orHamming}
 use Rattle.coder_theory.specs.State.{fresh, placesIn, messageIn, encodedIn, correctedIn, correctedPlaceIn, combineIn, thirdIn}
 use Rattle.coder_theory.specs.Reasons.{Reason, firstReason, notAdmitted}
-use Rattle.coder_theory.specs.Calls.{ifAccepted, inForce, writeInput, combineInput, placesInput, outputOf}
+use Rattle.coder_theory.specs.Calls.{ifAccepted, writeInput, combineInput, placesInput, outputOf}
 use Rattle.coder_theory.specs.declared.Record.{Record}
 
 -- "They answer 0 or the place as a signed 32-bit number, and a refusal as its negated number": of a refusal x, which is 0 where the call is
@@ -13,14 +14,14 @@ use Rattle.coder_theory.specs.declared.Record.{Record}
 abbrev pub signed : ℕ → ℕ → ℤ
 signed x p = ifAccepted x (pos p) (negℤ (pos x))
 
--- "by t and r, with no record": the code with t and r, where "r given as 0 means r = t", as a record with nothing counted; "C calls and sheet
--- use s = 0" (request C-17)
+-- "by t and r, with no record": the code with t and r, where "r given as 0 means r = t" as before request C-13, as a record with nothing
+-- counted; "C calls and sheet use s = 0" (request C-17)
 abbrev pub codeFor : ℕ → ℕ → Record
-codeFor t r = fresh t (inForce t r) 0
+codeFor t r = fresh t (orHamming t r) 0
 
 -- "1. Parameters not admitted (opening, C calls, sheet)." comes first; then what may be wrong with the input
 abbrev pub callReasons : ℕ → ℕ → List Reason → List Reason
-callReasons t r input = notAdmitted t (inForce t r) ∷ input
+callReasons t r input = notAdmitted t (orHamming t r) ∷ input
 
 -- ---- encoding
 abbrev pub encodeReasonsForC : ℕ → ℕ → List ℕ → ℕ → List Reason

@@ -1,18 +1,24 @@
--- What is said of the calls for C beside demands 1 and 3: they are the coder's calls with a record just opened, and 0 means r = t.
+-- What is said of the calls for C beside demands 1 and 3: they are the coder's calls with a record just opened, and 0 means r = t to them.
 -- Assumes nothing.
 use mathlib.Core.Path.{_≡_}
 use mathlib.Core.Logic.{_≢_}
 use mathlib.Core.List.{List}
 use Prim.Native.Nat.{ℕ}
 use lib.IntN.{ℤ}
+use Rattle.layout_theory.specs.Parameters.{orHamming}
 use Rattle.coder_theory.specs.Calls.{opened, encodeAnswer, correctAnswer, combineAnswer, thirdAnswer, encodeOutput, correctOutput, combineOutput}
 use Rattle.coder_theory.specs.declared.Record.{Record}
+use Rattle.coder_theory.specs.declared.Opened.{Opened}
 use Rattle.z2z4_theory.specs.Calls.{signed, encodeAnswerForC, encodeOutputForC, correctAnswerForC, correctOutputForC, combineAnswerForC, combineOutputForC, thirdAnswerForC}
 
--- v is what comes of opening with t and r: x of the number where it is refused, else f of the record that it gives
+-- "they turn 0 into r = t themselves, before opening" (request C-13)
+unfoldable pub openedForC : ℕ → ℕ → Opened
+openedForC t r = opened t (orHamming t r) 0
+
+-- v is what comes of that opening: x of the number where it is refused, else f of the record that it gives
 pub record AsOpened {A : Type 0} (t r : ℕ) (v : A) (x : ℕ → A) (f : Record → A) : Type 0 where
-  pub refused : opened t r 0 .refusal ≢ 0 → v ≡ x (opened t r 0 .refusal)
-  pub given : opened t r 0 .refusal ≡ 0 → v ≡ f (opened t r 0 .«record»)
+  pub refused : openedForC t r .refusal ≢ 0 → v ≡ x (openedForC t r .refusal)
+  pub given : openedForC t r .refusal ≡ 0 → v ≡ f (openedForC t r .«record»)
 
 -- what is told to C of the coder's answers: a refusal, or the place in correction and third place
 abbrev pub encodeTold : List ℕ → List ℕ → Record → ℤ

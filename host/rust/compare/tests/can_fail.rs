@@ -123,6 +123,11 @@ unsafe extern "C" fn third_of_equal(t: u32, r: u32, i: u32, j: u32) -> i32 {
     }
 }
 
+/// r = 0 as opening a record takes it.
+unsafe extern "C" fn smallest_r(t: u32, r: u32, i: u32, j: u32) -> i32 {
+    second_third_place(t, if r == 0 { t.div_ceil(2) } else { r }, i, j)
+}
+
 fn mismatch(wrong: Library) -> Mismatch {
     *run(RUN, &wrong, &SECOND, |_| {}).expect_err("a wrong library")
 }
@@ -168,6 +173,11 @@ fn wrong_answers() {
         ..SECOND
     });
     assert_eq!((found.library, found.case.call), (0, Call::ThirdPlace));
+    let found = mismatch(Library {
+        third_place: smallest_r,
+        ..SECOND
+    });
+    assert_eq!((found.case.kind, found.case.r), (Kind::ZeroR, 0));
 }
 
 #[test]

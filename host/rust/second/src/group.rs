@@ -14,17 +14,23 @@ pub struct Group {
     quaternary: usize,
 }
 
-/// The group of the code with t and r, none where they are not admitted. In the paper's table of
-/// parameters the row of t has a type for each such group of 2^t elements: t = a + 2b, r = a + b.
-/// At t = 2 the types are (1, 1, 0) and (3, 0, 0); the first has r = 1, which the row's column of
-/// r leaves out by a slip. The rows in use are 2 to 10.
+/// The row of t in the paper's table of parameters: a and b of each group of 2^t elements, so that
+/// t = a + 2b and r = a + b. At t = 2 the types are (1, 1, 0) and (3, 0, 0); the first has r = 1,
+/// which the row's column of r leaves out by a slip. The rows in use are 2 to 10.
+fn row(t: u32) -> impl Iterator<Item = (u32, u32)> {
+    let groups = if (2..=10).contains(&t) { t / 2 + 1 } else { 0 };
+    (0..groups).map(move |b| (t - 2 * b, b))
+}
+
+/// The group of the code with t and r, none where they are not admitted.
 pub fn of_code(t: u32, r: u32) -> Option<Group> {
-    if !(2..=10).contains(&t) {
-        return None;
-    }
-    let mut row = (0..=t / 2).map(|b| (t - 2 * b, b));
-    let (a, b) = row.find(|(a, b)| a + b == r)?;
+    let (a, b) = row(t).find(|(a, b)| a + b == r)?;
     Some(Group::new(a as usize, b as usize))
+}
+
+/// The smallest r in the row of t, none where there is no such row.
+pub fn smallest_r(t: u32) -> Option<u32> {
+    row(t).map(|(a, b)| a + b).min()
 }
 
 impl Group {

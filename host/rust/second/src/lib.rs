@@ -61,13 +61,22 @@ pub struct Code {
 }
 
 impl Code {
-    /// Opens the code of t and r with the first s places left out; r = 0 means r = t.
+    /// Opens the code of t and r with the first s places left out; r = 0 means the smallest r
+    /// that t has.
     pub fn open(t: u32, r: u32, s: u32) -> Result<Code, Refusal> {
-        let r = if r == 0 { t } else { r };
+        let r = match r {
+            0 => group::smallest_r(t).ok_or(Refusal::of(1))?,
+            given => given,
+        };
         let group = group::of_code(t, r).ok_or(Refusal::of(1))?;
         let images = layout::images(&group);
         let whole = Code::from_images(t, r, group, images);
         whole.shortened(s)
+    }
+
+    /// Opens a whole code as the sheet and the calls for C do, to which r = 0 means r = t.
+    pub fn or_hamming(t: u32, r: u32) -> Result<Code, Refusal> {
+        Code::open(t, if r == 0 { t } else { r }, 0)
     }
 
     /// The code of an array that has the paper's four parts, or of such an array without its

@@ -38,7 +38,7 @@ impl Record {
         if self.t == 0 {
             return Err(Refusal::of(21));
         }
-        // Only opening reads r = 0 as r = t.
+        // Only opening has a default for r.
         if self.r == 0 || !self.adds_up() {
             return Err(Refusal::of(22));
         }

@@ -12,7 +12,7 @@ pub fn text(input: &[u8]) -> String {
 
 fn asked(input: &[u8]) -> Result<Code, Refusal> {
     let (t, r) = parameters(input).ok_or(Refusal::of(7))?;
-    Code::open(t, r, 0)
+    Code::or_hamming(t, r)
 }
 
 /// None where the input is not of its form. A newline or space too many stays in a number or leaves
@@ -81,8 +81,11 @@ mod tests {
 
     #[test]
     fn r_given_as_0_is_t() {
-        assert_eq!(text(b"2 0\n"), text(b"2 2\n"));
-        assert_eq!(text(b"10 0\n"), text(b"10 10\n"));
+        for t in 0..=12 {
+            let [zero, twice] = [format!("{t} 0\n"), format!("{t} {t}\n")];
+            assert_eq!(text(zero.as_bytes()), text(twice.as_bytes()), "{t}");
+        }
+        assert!(text(b"4 0\n").starts_with("code 4 4 15 11\n1 3\n2 5\n"));
     }
 
     #[test]

@@ -20,11 +20,11 @@ static CODES: [[Opened; 11]; 11] = [const { [const { OnceLock::new() }; 11] }; 1
 fn answer(t: u32, r: u32, call: impl FnOnce(&Code) -> Result<u32, Refusal>) -> i32 {
     let row = CODES.get(t as usize);
     let answer = match row.and_then(|row| row.get(r as usize)) {
-        Some(kept) => match kept.get_or_init(|| Code::open(t, r, 0)) {
+        Some(kept) => match kept.get_or_init(|| Code::or_hamming(t, r)) {
             Ok(code) => call(code),
             Err(refusal) => Err(*refusal),
         },
-        None => Code::open(t, r, 0).and_then(|code| call(&code)),
+        None => Code::or_hamming(t, r).and_then(|code| call(&code)),
     };
     second::signed(answer)
 }

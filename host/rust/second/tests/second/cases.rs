@@ -1,4 +1,5 @@
-//! Every case of document 01 that this program has a call for, and those of request C-11.
+//! Every case of document 01 that this program has a call for, and those of requests C-11 and
+//! C-13.
 
 use super::{combine, correct, encode, flipped, invert, layout, open, word};
 
@@ -25,7 +26,8 @@ fn parameters() {
     assert_eq!(sizes(4, 2), (4, 2, 15, 11));
     assert_eq!(sizes(10, 5), (10, 5, 1_023, 1_013));
     assert_eq!(sizes(10, 10), (10, 10, 1_023, 1_013));
-    assert_eq!(sizes(3, 0), (3, 3, 7, 4));
+    assert_eq!(sizes(2, 0), (2, 1, 3, 1));
+    assert_eq!(sizes(3, 0), (3, 2, 7, 4));
 }
 
 #[test]

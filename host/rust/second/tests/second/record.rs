@@ -58,11 +58,18 @@ fn parameters() {
     }
 }
 
-/// Opening turns r = 0 into r = t; a record that still has it was not opened.
+/// Opening turns r = 0 into the smallest r; a record that still has it was not opened.
 #[test]
 fn no_r() {
-    let hamming = Code::open(4, 0, 1).expect("r = 4");
-    assert_eq!(Record::of(&hamming), Record::fresh(4, 4, 1));
+    let smallest = [1, 2, 2, 3, 3, 4, 4, 5, 5];
+    for (t, r) in (2..).zip(smallest) {
+        let code = Code::open(t, 0, 0).expect("t has an r");
+        assert_eq!(Record::of(&code), Record::fresh(t, r, 0));
+        let below = (1..r).find(|&r| Code::open(t, r, 0).is_ok());
+        assert_eq!(below, None, "{t}");
+    }
+    let shortened = Code::open(5, 0, 1).expect("s is allowed");
+    assert_eq!(Record::of(&shortened), Record::fresh(5, 3, 1));
     for t in 1..=11 {
         assert_eq!(reason(Record::fresh(t, 0, 0)), 22, "{t}");
     }

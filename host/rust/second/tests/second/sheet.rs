@@ -60,6 +60,7 @@ fn those_that_take_other_lines() {
         r#"tr -s ' ' | "$0""#,
         r#"sed 's/ $//' | "$0""#,
         r#"sed 's/^0*//' | "$0""#,
+        r#"sed 's/^4 0$/4 2/' | "$0""#,
         r#"LC_ALL=C tr '\200-\377' '\000-\177' | "$0""#,
     ] {
         found_out(script);

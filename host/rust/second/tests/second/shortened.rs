@@ -98,9 +98,11 @@ fn opening() {
     assert_eq!(reason(3, 3, 4), refused(10));
     assert_eq!(reason(2, 1, 1), refused(10));
     assert_eq!(reason(2, 2, 1), refused(10));
-    // s is judged with the r in force: in (3,2) three places would cut a pair.
-    let code = Code::open(3, 0, 3).expect("r = 3");
-    assert_eq!((code.r(), code.length()), (3, 4));
+    // s is judged with the r in force: in (3,2) three places would cut a pair, in (3,3) not.
+    assert_eq!(reason(3, 0, 3), refused(10));
+    let opened = |t, r, s| Code::open(t, r, s).expect("allowed");
+    assert_eq!((opened(3, 0, 1).r(), opened(3, 0, 1).length()), (2, 6));
+    assert_eq!(opened(3, 3, 3).length(), 4);
 }
 
 #[test]

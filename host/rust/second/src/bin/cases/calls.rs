@@ -110,7 +110,7 @@ mod tests {
         check_lines(
             "open 3 2 0: refusal 0 record (3,2,0,0,0,0,0)
             open 3 2 2: refusal 0 record (3,2,2,0,0,0,0)
-            open 4 0 0: refusal 0 record (4,4,0,0,0,0,0)
+            open 4 0 0: refusal 0 record (4,2,0,0,0,0,0)
             open 0 0 0: refusal 1 record (0,0,0,0,0,0,0)
             open 5 2 4294967295: refusal 1 record (0,0,0,0,0,0,0)
             open 3 2 3: refusal 10 record (0,0,0,0,0,0,0)",

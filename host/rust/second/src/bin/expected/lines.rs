@@ -80,7 +80,7 @@ mod tests {
     #[test]
     fn openings() {
         assert_eq!(opening(3, 2, 1), "open 3 2 1 code 3 2 1 6 3\n");
-        assert_eq!(opening(4, 0, 0), "open 4 0 0 code 4 4 0 15 11\n");
+        assert_eq!(opening(4, 0, 0), "open 4 0 0 code 4 2 0 15 11\n");
         assert_eq!(opening(3, 2, 3), "open 3 2 3 refused 10\n");
     }
 

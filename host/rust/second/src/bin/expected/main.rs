@@ -24,7 +24,7 @@ fn expected() -> String {
         for r in 0..=12 {
             text += &openings::with_each_s(t, r);
             text += &lines::opening(t, r, 0);
-            // r = 0 opens a code that has its rounds under r = t.
+            // r = 0 opens a code that has its rounds under the r in force.
             if r != 0 {
                 text += &rounds(t, r);
             }
