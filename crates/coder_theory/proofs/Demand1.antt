@@ -7,7 +7,7 @@ use Prim.Native.Nat.{ℕ}
 use native.Mathlib.Omega.{arith}
 use Rattle.layout_theory.specs.Parameters.{smallestR}
 use Rattle.layout_theory.proofs.Parameters.{admits-admitted, admitted-admits}
-use Rattle.layout_theory.proofs.Limits.{smallest-r}
+use Rattle.layout_theory.proofs.Limits.{defaults}
 use Rattle.shortened_theory.proofs.Between.{allows-allowed, allowed-allows, zero-allowed}
 use Rattle.coder_theory.specs.State.{Usable}
 use Rattle.coder_theory.specs.Reasons.{notAdmitted, notAllowed, firstReason}
@@ -83,18 +83,18 @@ opens-with-zero t s =
     record {
       smallest = λ k h.
           let a = h .admitted in
-          let b = smallest-r t (a .least) (a .most) .smallest in
+          let b = defaults t (a .least) (a .most) .smallest in
           let x = b .least k a in
           let y = h .least (smallestR t) (b .admitted) in
           let e : smallestR t ≡ k = omega arith in
           opened-same t 0 k s (e ∙ sym (in-force t k (λ z. let i = a .binary in omega arith)));
       refused = (
-        (λ e h. opens-with t 0 s .refused .numbers .0 .0 e .1 (smallest-r t (h .0) (h .1) .smallest .admitted)),
+        (λ e h. opens-with t 0 s .refused .numbers .0 .0 e .1 (defaults t (h .0) (h .1) .smallest .admitted)),
         λ never. opens-with t 0 s .refused .numbers .0 .1 (tt, λ a. never (a .least, a .most)),
       );
       accepts = (
         (λ e. let a = opens-with t 0 0 .accepts .0 e .0 in (a .least, a .most)),
-        λ h. let a = smallest-r t (h .0) (h .1) .smallest .admitted in opens-with t 0 0 .accepts .1 (a, zero-allowed t (smallestR t) a),
+        λ h. let a = defaults t (h .0) (h .1) .smallest .admitted in opens-with t 0 0 .accepts .1 (a, zero-allowed t (smallestR t) a),
       );
     }
 

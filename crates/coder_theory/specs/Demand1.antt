@@ -11,7 +11,7 @@ use lib.Dec.{eqb}
 use lib.ListN.{length, getD}
 use Rattle.layout_theory.specs.Choice.{pick}
 use Rattle.layout_theory.specs.Parameters.{longest, Admitted, smallestR, placesOf, messageOf, moduliFor}
-use Rattle.layout_theory.specs.Claims.{SmallestFor}
+use Rattle.layout_theory.specs.Claims.{IsSmallest}
 use Rattle.words_theory.specs.Words.{Bits, Word}
 use Rattle.shortened_theory.specs.Allowed.{Allowed}
 use Rattle.shortened_theory.specs.Code.{ShortenedCodeword}
@@ -187,8 +187,8 @@ pub record OpensWith (t r s : ℕ) : Type 0 where
 
 -- opening with r = 0
 pub record OpensWithZero (t s : ℕ) : Type 0 where
-  -- it is opening with the smallest r that is admitted with t; every t from 2 to the largest in use has one (`smallest-r`)
-  pub smallest : (k : ℕ) → SmallestFor t k → opened t 0 s ≡ opened t k s
+  -- it is opening with the smallest r that is admitted with t; every t from 2 to the largest in use has one (`defaults`)
+  pub smallest : (k : ℕ) → IsSmallest t k → opened t 0 s ≡ opened t k s
   -- it is refused with 1 exactly where t is not admitted, and with s = 0 for no other reason
   pub refused : (opened t 0 s .refusal ≡ 1) ↔ ((2 ≤ t) × (t ≤ longest) → ⊥)
   pub accepts : (opened t 0 0 .refusal ≡ 0) ↔ ((2 ≤ t) × (t ≤ longest))

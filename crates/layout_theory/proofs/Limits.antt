@@ -7,7 +7,7 @@ use Prim.Native.Nat.{ℕ, zero, suc, _+_, _*_}
 use native.Mathlib.Omega.{arith}
 use native.Mathlib.Decide.{ℕ-discrete}
 use Rattle.layout_theory.specs.Parameters.{Admitted, admits, smallestR, orHamming}
-use Rattle.layout_theory.specs.Claims.{AdmittedRange, FromTwo, OnePairMore, Smallest, Limits}
+use Rattle.layout_theory.specs.Claims.{AdmittedRange, FromTwo, OnePairMore, Defaults, Limits}
 use Rattle.layout_theory.proofs.Parameters.{admits-admitted, admitted-admits}
 
 pub admitted-range : AdmittedRange
@@ -53,8 +53,8 @@ one-pair-more = record { range = λ t r. (apart t r, together t r); new = λ h. 
     together t r (inl h) = record { least = h .0; most = h .1; binary = let b = h .2 in omega arith; within = h .3; twice = h .4 }
     together t r (inr e) = rw (e .0, e .1) (admits-admitted 2 1 refl)
 
-pub smallest-r : Smallest
-smallest-r t l m =
+pub defaults : Defaults
+defaults t l m =
     record {
       smallest = record {
         admitted = record { least = l; most = m; binary = omega arith; within = omega arith; twice = omega arith };
