@@ -5,10 +5,11 @@
  * one place from exactly one codeword; so a single flipped place is always corrected, and two flipped ones never are.
  *
  * Parameters. Each call names its code by t and r. Admitted are t from 2 to 10 with 1 <= r <= t <= 2r. r given as 0
- * stands for r = t (the Hamming code, its places in this library's order). The number of places is n = 2^t - 1. A
- * message has n - t places, and a codeword begins with its message. Codes with the same t and different r have the
- * same lengths but different codewords; only (2, 1) and (2, 2) have the same two, 000 and 111, and there z2z4_combine
- * differs.
+ * stands for r = t (the Hamming code, its places in this library's order), in these calls and in the sheet program;
+ * only where a record is opened in Rattle does 0 stand for another r, the smallest that is admitted. The number of
+ * places is n = 2^t - 1. A message has n - t places, and a codeword begins with its message. Codes with the same t and
+ * different r have the same lengths but different codewords; only (2, 1) and (2, 2) have the same two, 000 and 111, and
+ * there z2z4_combine differs.
  *
  * Words. One byte a place, each 0 or 1. Places count from 1: place p is byte p - 1. Some places are binary, the others
  * stand in pairs; a pair is a digit modulo 4: 0 is 00, 1 is 01, 2 is 11, 3 is 10 (the Gray map). With a = 2r - t and

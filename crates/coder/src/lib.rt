@@ -284,7 +284,7 @@ pub fn third_place(record: Record, i: u32, j: u32) -> Answer
     }
 }
 
-// The r that opening takes.
+// The r that opening takes. Half of t rounded up is not (t + 1) / 2 here, which could overflow.
 fn in_force(t: u32, r: u32) -> u32
     ensures { λ x. ⌜ x ≡ inForce t r ⌝ }
 {

@@ -1,12 +1,12 @@
--- The range of t and r: the inequality, the test for it, the pair that request C-11 adds, the smallest r of each t, and document 01's examples,
--- computed by the test; and an r that is given is not turned. Assumes nothing.
+-- The range of t and r: the inequality, the test for it, the pair that request C-11 adds, document 01's examples, computed by the test, and the
+-- smallest r of each t. Assumes nothing.
 use mathlib.Core.Path.{_≡_, refl, sym, _∙_}
 use mathlib.Core.Bool.{false, true≢false}
-use mathlib.Core.Logic.{_≢_, _⊎_, inl, inr}
-use Prim.Native.Nat.{ℕ, zero, suc, _+_, _*_}
+use mathlib.Core.Logic.{_⊎_, inl, inr}
+use Prim.Native.Nat.{ℕ, _+_, _*_}
 use native.Mathlib.Omega.{arith}
 use native.Mathlib.Decide.{ℕ-discrete}
-use Rattle.layout_theory.specs.Parameters.{Admitted, admits, smallestR, orHamming}
+use Rattle.layout_theory.specs.Parameters.{Admitted, admits, smallestR}
 use Rattle.layout_theory.specs.Claims.{AdmittedRange, FromTwo, OnePairMore, Defaults, Limits}
 use Rattle.layout_theory.proofs.Parameters.{admits-admitted, admitted-admits}
 
@@ -66,8 +66,3 @@ defaults t l m =
     go : Dec (2 * smallestR t ≡ t) → (2 * smallestR t ≡ t) ⊎ (2 * smallestR t ≡ t + 1)
     go (yes e) = inl e
     go (no n) = inr (omega (arith, n))
-
--- an r that is given is the one that is meant
-pub or-given : (t r : ℕ) → r ≢ 0 → orHamming t r ≡ r
-or-given t zero h = absurd (h refl)
-or-given t (suc r) h = refl

@@ -1,6 +1,7 @@
--- The admitted parameters: the test is the statement, and what a, b, n and k come to. The limit on t enters only as "at most twelve
--- components". Assumes nothing.
+-- The parameters: the test of the admitted ones is the statement, an r that is given is meant, and what a, b, n and k come to. The limit on t
+-- enters only as "at most twelve components". Assumes nothing.
 use mathlib.Core.Path.{_≡_, refl, sym, ap, ap₂, subst, _∙_}
+use mathlib.Core.Logic.{_≢_}
 use mathlib.Core.List.{List}
 use mathlib.Core.Bool.{Bool, true, false}
 use Prim.Native.Nat.{ℕ, zero, suc, _+_, _*_, _%_, _^_, _<_, _≤_}
@@ -14,7 +15,7 @@ use Rattle.group_theory.proofs.Fill.{zeros-moduli}
 use Rattle.group_theory.proofs.Numbers.{size-moduli}
 use Rattle.group_theory.proofs.Signs.{both}
 use Rattle.layout_theory.specs.Choice.{zeroUnless}
-use Rattle.layout_theory.specs.Parameters.{longest, Admitted, admits, placesOf, pairsOf, messageOf, binaryOf, quaternaryOf, moduliFor}
+use Rattle.layout_theory.specs.Parameters.{longest, Admitted, admits, orHamming, placesOf, pairsOf, messageOf, binaryOf, quaternaryOf, moduliFor}
 use Rattle.layout_theory.specs.Layout.{singles, pairs, slots, places, elementAt, placeOf}
 use Rattle.layout_theory.specs.Calls.{shapeFor, elementFor, placeFor}
 use Rattle.layout_theory.specs.declared.Shape.{Shape}
@@ -45,6 +46,10 @@ admitted-admits t r h =
       le-leb _ _ (h .within),
       le-leb _ _ (h .twice),
     )
+
+pub or-given : (t r : ℕ) → r ≢ 0 → orHamming t r ≡ r
+or-given t zero h = absurd (h refl)
+or-given t (suc r) h = refl
 
 pub below-power : (t : ℕ) → t < 2 ^ t
 below-power zero = omega arith

@@ -1,7 +1,7 @@
-// The parameters: whether t and r are admitted, which r is meant where 0 is given, whether s is allowed
-// with t and r, the numbers of their code, and whether a number is a place. What the first four answer
-// is defined in crate layout_theory, specs/Parameters.antt and Calls.antt, and in crate
-// shortened_theory, specs/Calls.antt.
+// The parameters: whether t and r are admitted, r = t for an r given as 0, whether s is allowed with t
+// and r, the numbers of their code, and whether a number is a place. What the first four answer is
+// defined in crate layout_theory, specs/Parameters.antt and Calls.antt, and in crate shortened_theory,
+// specs/Calls.antt.
 ghost use mathlib.Core.Path.{_≡_};
 ghost use mathlib.Core.Bool.{_&&_};
 ghost use lib.Dec.{leb, ltb};
@@ -33,8 +33,8 @@ pub fn admitted(t: u32, r: u32) -> bool
     t - r <= r
 }
 
-// r, or where it is given as 0, t: the Hamming code. The sheet and the calls for C ask for it before
-// they open a record; opening has another default.
+// r, or t where r is given as 0: the Hamming code. The sheet and the calls for C ask for it before they
+// open a record, since opening has another default.
 pub fn or_hamming(t: u32, r: u32) -> u32
     ensures { λ x. ⌜ x ≡ orHamming t r ⌝ }
 {

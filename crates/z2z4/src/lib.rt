@@ -1,9 +1,8 @@
 // The calls for C, by t and r, with no record: each opens a record, r = 0 meaning r = t, and is the
-// coder's call with it.
-// They answer 0 or a place, and a refusal as its negated number. What each answers and writes is
-// defined in crate z2z4_theory, specs/Calls.antt; that it is the coder's call is a theorem there. In C
-// a slice is a pointer and a length (include/z2z4.h). The caller keeps an output apart from what is
-// read.
+// coder's call with it. They answer 0 or a place, and a refusal as its negated number. What each
+// answers and writes is defined in crate z2z4_theory, specs/Calls.antt; that it is the coder's call is a
+// theorem there. In C a slice is a pointer and a length (include/z2z4.h). The caller keeps an output
+// apart from what is read.
 ghost use mathlib.Core.Path.{_≡_};
 ghost use Prim.Native.Nat.{_<_, _^_};
 ghost use Rattle.z2z4_theory.specs.Claims.{openedForC};
@@ -69,7 +68,7 @@ pub extern "C" fn z2z4_third_place(t: u32, r: u32, i: u32, j: u32) -> i32
     answer(p.refusal, p.place)
 }
 
-// The record of a call: opening's own default for r = 0 is another.
+// The record of a call. Opening has another default for r = 0, which is not reached from here.
 fn open(t: u32, r: u32) -> coder::Opened
     ensures { λ x. ⌜ x ≡ openedForC t r ⌝ }
 {

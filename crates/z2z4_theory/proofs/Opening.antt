@@ -10,8 +10,7 @@ use borrow.Author.Tests.{lt-leb}
 use lib.Dec.{leb}
 use lib.ListN.{length, drop}
 use Rattle.layout_theory.specs.Parameters.{Admitted, admits, orHamming}
-use Rattle.layout_theory.proofs.Parameters.{admits-admitted}
-use Rattle.layout_theory.proofs.Limits.{or-given}
+use Rattle.layout_theory.proofs.Parameters.{admits-admitted, or-given}
 use Rattle.shortened_theory.specs.Code.{isLeftOut}
 use Rattle.coder_theory.specs.State.{Usable, fresh, placesIn, messageIn, encodedIn, correctedIn, correctedPlaceIn, correctedOldPlaceIn, combineIn, thirdIn, thirdOldPlaceIn}
 use Rattle.coder_theory.specs.Reasons.{Reason, firstReason, notAdmitted, leftOut, full}

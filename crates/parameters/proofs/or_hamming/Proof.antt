@@ -1,7 +1,7 @@
 -- `parameters::or_hamming` meets its contract. Assumes nothing.
 use borrow.Author.Needs.{needs}
 use mathlib.Core.Path.{sym}
-use Rattle.layout_theory.proofs.Limits.{or-given}
+use Rattle.layout_theory.proofs.Parameters.{or-given}
 use Rattle.parameters.proofs.or_hamming.Statement.{statement}
 use Rattle.parameters.proofs.or_hamming.Tie as tie
 
