@@ -68,7 +68,7 @@ pub extern "C" fn z2z4_third_place(t: u32, r: u32, i: u32, j: u32) -> i32
     answer(p.refusal, p.place)
 }
 
-// The record of a call. Opening has another default for r = 0, which is not reached from here.
+// The record of a call: 0 is turned into r = t before opening, which has another default.
 fn open(t: u32, r: u32) -> coder::Opened
     ensures { λ x. ⌜ x ≡ openedForC t r ⌝ }
 {
