@@ -9,7 +9,8 @@ use native.Mathlib.Omega.{arith}
 use lib.Dec.{eqb, ltb}
 use lib.ListN.{length}
 use borrow.Author.Tests.{eqb-true, eqb-false, ltb-true, eq-eqb, ne-eqb, lt-ltb, not-true}
-use Rattle.layout_theory.specs.Parameters.{Admitted, admits, orHamming}
+use Rattle.layout_theory.specs.Parameters.{Admitted, admits}
+use Rattle.layout_theory.specs.Calls.{orHamming}
 use Rattle.layout_theory.proofs.Parameters.{admits-admitted, admitted-admits}
 use Rattle.words_theory.specs.Words.{Bits}
 use Rattle.shortened_theory.specs.Allowed.{Allowed, allows}

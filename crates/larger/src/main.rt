@@ -1,5 +1,5 @@
-// Every opening with t from 0 to 11 and r from 0 to 12. For each code that is admitted, up to 1,023 places,
-// three rounds of calls on drawn words, and rounds in some of its shortened codes; then every word of the
+// Every opening with t from 0 to 11 and r from 0 to 12, and a call for C with each. For each code that is
+// admitted, up to 1,023 places, three rounds of calls on drawn words, and rounds in some of its shortened codes; then every word of the
 // short codes. The file `stdout` beside src/ was written by a second program, which shares no code with the
 // engine: that this program prints the same text is the check.
 mod alter;
@@ -41,6 +41,8 @@ fn open(t: u32, r: u32)
     openings::with_each_s(t, r);
     let o = coder::open(t, r, 0);
     lines::opening(t, r, 0, o);
+    // By the call for C, to which r = 0 is r = t.
+    lines::third(openings::made(t, r, 0), 1, 2);
     // r = 0 opens a code whose rounds come under the r in force.
     if r == 0 {
         return;

@@ -56,7 +56,7 @@ fn first_element(x: u32, code: Record) -> u32 {
 }
 
 // A record as any caller may make one.
-fn made(t: u32, r: u32, s: u32) -> Record {
+pub(crate) fn made(t: u32, r: u32, s: u32) -> Record {
     Record {
         t,
         r,

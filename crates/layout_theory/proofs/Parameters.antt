@@ -1,7 +1,7 @@
--- The parameters: the test of the admitted ones is the statement, an r that is given is meant, and what a, b, n and k come to. The limit on t
--- enters only as "at most twelve components". Assumes nothing.
+-- The parameters: the test of the admitted ones is the statement, what is admitted where 0 means r = t, and what a, b, n and k come to. The
+-- limit on t enters only as "at most twelve components". Assumes nothing.
 use mathlib.Core.Path.{_≡_, refl, sym, ap, ap₂, subst, _∙_}
-use mathlib.Core.Logic.{_≢_}
+use mathlib.Core.Logic.{_≢_, _↔_, inl, inr}
 use mathlib.Core.List.{List}
 use mathlib.Core.Bool.{Bool, true, false}
 use Prim.Native.Nat.{ℕ, zero, suc, _+_, _*_, _%_, _^_, _<_, _≤_}
@@ -15,9 +15,9 @@ use Rattle.group_theory.proofs.Fill.{zeros-moduli}
 use Rattle.group_theory.proofs.Numbers.{size-moduli}
 use Rattle.group_theory.proofs.Signs.{both}
 use Rattle.layout_theory.specs.Choice.{zeroUnless}
-use Rattle.layout_theory.specs.Parameters.{longest, Admitted, admits, orHamming, placesOf, pairsOf, messageOf, binaryOf, quaternaryOf, moduliFor}
+use Rattle.layout_theory.specs.Parameters.{longest, Admitted, admits, AdmittedOrZero, placesOf, pairsOf, messageOf, binaryOf, quaternaryOf, moduliFor}
 use Rattle.layout_theory.specs.Layout.{singles, pairs, slots, places, elementAt, placeOf}
-use Rattle.layout_theory.specs.Calls.{shapeFor, elementFor, placeFor}
+use Rattle.layout_theory.specs.Calls.{orHamming, shapeFor, elementFor, placeFor}
 use Rattle.layout_theory.specs.declared.Shape.{Shape}
 use Rattle.layout_theory.proofs.Sizes.{twos, fours, halves, length-singles, length-pairs, length-places, shape-moduli}
 
@@ -47,9 +47,21 @@ admitted-admits t r h =
       le-leb _ _ (h .twice),
     )
 
+-- ---- r, or t where r is 0
 pub or-given : (t r : ℕ) → r ≢ 0 → orHamming t r ≡ r
 or-given t zero h = absurd (h refl)
 or-given t (suc r) h = refl
+
+admitted-or : (t r : ℕ) → Admitted t (orHamming t r) → AdmittedOrZero t r
+admitted-or t zero h = inr (refl, h)
+admitted-or t (suc r) h = inl h
+
+or-admitted : (t r : ℕ) → AdmittedOrZero t r → Admitted t (orHamming t r)
+or-admitted t r (inl h) = subst (Admitted t) (sym (or-given t r (λ z. let b = h .binary in omega arith))) h
+or-admitted t r (inr (z, h)) = subst (λ (k : ℕ). Admitted t (orHamming t k)) (sym z) h
+
+pub admitted-zero : (t r : ℕ) → Admitted t (orHamming t r) ↔ AdmittedOrZero t r
+admitted-zero t r = (admitted-or t r, or-admitted t r)
 
 pub below-power : (t : ℕ) → t < 2 ^ t
 below-power zero = omega arith

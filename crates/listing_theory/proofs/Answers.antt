@@ -3,7 +3,7 @@ use mathlib.Core.Path.{_≡_}
 use mathlib.Core.List.{List}
 use Prim.Native.Nat.{ℕ}
 use borrow.Author.Tests.{eq-eqb, ne-eqb}
-use Rattle.layout_theory.specs.Parameters.{orHamming}
+use Rattle.layout_theory.specs.Calls.{orHamming}
 use Rattle.coder_theory.specs.Calls.{opened}
 use Rattle.coder_theory.specs.declared.Opened.{Opened}
 use Rattle.listing_theory.specs.Form.{readLine}

@@ -1,12 +1,13 @@
 -- The theorem on the sheet, `sheet-of`: which text an input gives, and what of it stands in a buffer. Its statement is in specs/Claims. Assumes nothing.
-use mathlib.Core.Path.{_≡_, refl, sym, ap, _∙_}
+use mathlib.Core.Path.{_≡_, refl, sym, ap, subst, _∙_}
 use mathlib.Core.Bool.{Bool, true, false}
 use mathlib.Core.List.{List}
-use Prim.Native.Nat.{ℕ, zero, suc, _≤_}
+use Prim.Native.Nat.{ℕ, _≤_}
 use native.Mathlib.Omega.{arith}
 use lib.ListN.{length, getD}
-use Rattle.layout_theory.specs.Parameters.{Admitted, admits, orHamming}
-use Rattle.layout_theory.proofs.Parameters.{admits-admitted}
+use Rattle.layout_theory.specs.Parameters.{Admitted, admits, AdmittedOrZero}
+use Rattle.layout_theory.specs.Calls.{orHamming}
+use Rattle.layout_theory.proofs.Parameters.{admits-admitted, or-given, admitted-zero}
 use Rattle.coder_theory.proofs.Refusals.{opens-zero, opens-never}
 use Rattle.listing_theory.specs.Form.{readLine}
 use Rattle.listing_theory.specs.Spelling.{Spells}
@@ -22,11 +23,6 @@ use Rattle.listing_theory.proofs.Wholes.{line-seven, line-one, listing-
 -- the texts differ, at index 0 or 8
 differ : (i : ℕ) (s u v : List ℕ) → s ≡ u → s ≡ v → (getD u i 0 ≡ getD v i 0 → ⊥) → ⊥
 differ i s u v d e n = n (ap (λ (l : List ℕ). getD l i 0) (sym d ∙ e))
-
-zero-line : (t : ℕ) → lineText (Read t 0) ≡ lineText (Read t t)
-unfolding lineText
-zero-line zero = refl
-zero-line (suc t) = refl
 
 module _ (input : List ℕ) where
   of-line : (l : Line) → readLine input ≡ l → sheetText input ≡ lineText l
@@ -50,27 +46,32 @@ module _ (input : List ℕ) where
     not-seven true h e = differ 0 (sheetText input) refused7 (wholeSheet t (orHamming t r)) e (of-admitted (admits-admitted t (orHamming t r) h)) (λ z. omega arith)
     not-seven false h e = differ 8 (sheetText input) refused7 refused1 e (of-other h) (λ z. omega arith)
 
-    of-not-admitted : (b : Bool) → admits t (orHamming t r) ≡ b → (Admitted t (orHamming t r) → ⊥) → sheetText input ≡ refused1
-    of-not-admitted true h n = absurd (n (admits-admitted t (orHamming t r) h))
+    of-not-admitted : (b : Bool) → admits t (orHamming t r) ≡ b → (AdmittedOrZero t r → ⊥) → sheetText input ≡ refused1
+    of-not-admitted true h n = absurd (n (admitted-zero t r .0 (admits-admitted t (orHamming t r) h)))
     of-not-admitted false h n = of-other h
+
+    of-given : Admitted t r → sheetText input ≡ wholeSheet t r
+    of-given h =
+        let e = or-given t r (λ z. let b = h .binary in omega arith) in
+        of-admitted (subst (Admitted t) (sym e) h) ∙ ap (wholeSheet t) e
 
   unspelt : (l : Line) → readLine input ≡ l → ((t r : ℕ) → Spells input t r → ⊥) → sheetText input ≡ refused7
   unspelt Malformed e n = of-malformed e
   unspelt (Read t r) e n = absurd (n t r (spells t r input e))
 
-  spelt-one : (l : Line) → readLine input ≡ l → sheetText input ≡ refused1 → (t : ℕ) × (r : ℕ) × Spells input t r × (Admitted t (orHamming t r) → ⊥)
+  spelt-one : (l : Line) → readLine input ≡ l → sheetText input ≡ refused1 → (t : ℕ) × (r : ℕ) × Spells input t r × (AdmittedOrZero t r → ⊥)
   spelt-one Malformed e o = absurd (differ 8 (sheetText input) refused7 refused1 (of-malformed e) o (λ z. omega arith))
   spelt-one (Read t r) e o =
       let s = spells t r input e in
-      (t, r, s, λ h. differ 0 (sheetText input) refused1 (wholeSheet t (orHamming t r)) o (of-admitted t r s h) (λ z. omega arith))
+      (t, r, s, λ h. differ 0 (sheetText input) refused1 (wholeSheet t (orHamming t r)) o (of-admitted t r s (admitted-zero t r .1 h)) (λ z. omega arith))
 
 pub sheet-of : Sheets
 sheet-of input =
     record {
       malformed = ((λ e t r s. not-seven input t r s _ refl e), unspelt input _ refl);
       notAdmitted = (spelt-one input _ refl, λ w. of-not-admitted input (w .0) (w .1) (w .2) _ refl (w .3));
-      listed = of-admitted input;
-      zeroIsT = λ t s twice v. of-line input (Read t 0) (spelt-is-read input t 0 s) ∙ zero-line t ∙ sym (of-line twice (Read t t) (spelt-is-read twice t t v));
+      listed = of-given input;
+      zeroIsT = λ t s h. of-admitted input t 0 s h;
       fits = sheet-fits input;
       written = overwritten (sheetText input);
     }

@@ -7,7 +7,7 @@ use mathlib.Core.Bool.{true}
 use mathlib.Core.List.{List, [], _∷_, _++_, flatMap}
 use Prim.Native.Nat.{ℕ, _+_, _-_, _*_, _^_, _<_, _≤_}
 use lib.ListN.{length, take, drop}
-use Rattle.layout_theory.specs.Parameters.{Admitted, orHamming, placesOf, messageOf}
+use Rattle.layout_theory.specs.Parameters.{Admitted, AdmittedOrZero, placesOf, messageOf}
 use Rattle.layout_theory.specs.Layout.{from}
 use Rattle.coder_theory.specs.Calls.{elementAnswer}
 use Rattle.listing_theory.specs.Decimal.{decimal, isDigit, value}
@@ -45,13 +45,13 @@ abbrev pub bufferLength : ℕ
 bufferLength = 65536
 
 -- the sheet of any input: refused with 7 exactly where it is not of the form, with 1 exactly where it spells parameters that are not admitted,
--- and else the sheet of its code; no sheet is longer than the buffer
+-- and else the sheet of its code, or of r = t where it spells r = 0; no sheet is longer than the buffer
 pub record SheetOf (input : List ℕ) : Type 0 where
   pub malformed : (sheetText input ≡ refused7) ↔ ((t r : ℕ) → Spells input t r → ⊥)
-  pub notAdmitted : (sheetText input ≡ refused1) ↔ ((t : ℕ) × (r : ℕ) × Spells input t r × (Admitted t (orHamming t r) → ⊥))
-  pub listed : (t r : ℕ) → Spells input t r → Admitted t (orHamming t r) → sheetText input ≡ wholeSheet t (orHamming t r)
-  -- "r given as 0 means r = t": it is the sheet of every input that spells t twice
-  pub zeroIsT : (t : ℕ) → Spells input t 0 → (twice : List ℕ) → Spells twice t t → sheetText input ≡ sheetText twice
+  pub notAdmitted : (sheetText input ≡ refused1) ↔ ((t : ℕ) × (r : ℕ) × Spells input t r × (AdmittedOrZero t r → ⊥))
+  pub listed : (t r : ℕ) → Spells input t r → Admitted t r → sheetText input ≡ wholeSheet t r
+  -- "r given as 0 means r = t"; the sheet keeps this reading, "so printed sheets stay comparable" (request C-13)
+  pub zeroIsT : (t : ℕ) → Spells input t 0 → Admitted t t → sheetText input ≡ wholeSheet t t
   pub fits : length (sheetText input) ≤ bufferLength
   -- what `listing::sheet` leaves in a buffer: as much of the text as fits, and of a longer buffer the further bytes as they were
   pub written : (out : List ℕ) → overwrite (sheetText input) out ≡ take (length out) (sheetText input) ++ drop (length (sheetText input)) out

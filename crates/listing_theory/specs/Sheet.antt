@@ -4,7 +4,7 @@ use mathlib.Core.List.{List, [], _∷_, _++_}
 use Prim.Native.Nat.{ℕ, zero, suc, _+_}
 use lib.Dec.{eqb}
 use Rattle.layout_theory.specs.Choice.{pick}
-use Rattle.layout_theory.specs.Parameters.{orHamming}
+use Rattle.layout_theory.specs.Calls.{orHamming}
 use Rattle.coder_theory.specs.Calls.{opened, elementAnswer, wordLength, messageLength}
 use Rattle.coder_theory.specs.declared.Record.{Record}
 use Rattle.coder_theory.specs.declared.Opened.{Opened}

@@ -5,8 +5,8 @@
 ghost use mathlib.Core.Path.{_≡_};
 ghost use mathlib.Core.Bool.{_&&_};
 ghost use lib.Dec.{leb, ltb};
-ghost use Rattle.layout_theory.specs.Parameters.{admits, orHamming};
-ghost use Rattle.layout_theory.specs.Calls.{shapeFor};
+ghost use Rattle.layout_theory.specs.Parameters.{admits};
+ghost use Rattle.layout_theory.specs.Calls.{orHamming, shapeFor};
 ghost use Rattle.shortened_theory.specs.Allowed.{endsWhole};
 ghost use Rattle.shortened_theory.specs.Calls.{allowedFor};
 pub use layout_theory::Shape;

@@ -37,6 +37,8 @@ fn not_admitted() {
     show(b"0 0\n");
     show(b"1 1\n");
     show(b"5 2\n");
+    show(b"11 6\n");
+    show(b"4 5\n");
     show(b"11 0\n");
     show(b"9999 9999\n");
 }

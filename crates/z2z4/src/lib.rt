@@ -5,8 +5,7 @@
 // apart from what is read.
 ghost use mathlib.Core.Path.{_≡_};
 ghost use Prim.Native.Nat.{_<_, _^_};
-ghost use Rattle.z2z4_theory.specs.Claims.{openedForC};
-ghost use Rattle.z2z4_theory.specs.Calls.{signed, encodeAnswerForC, encodeOutputForC, correctAnswerForC, correctOutputForC, combineAnswerForC, combineOutputForC, thirdAnswerForC};
+ghost use Rattle.z2z4_theory.specs.Calls.{signed, openedForC, encodeAnswerForC, encodeOutputForC, correctAnswerForC, correctOutputForC, combineAnswerForC, combineOutputForC, thirdAnswerForC};
 
 // The codeword of a message, at the front of `out`. Answers 0, or −1, −2, −3 or −4.
 #[no_mangle]

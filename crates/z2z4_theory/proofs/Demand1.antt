@@ -7,8 +7,9 @@ use Prim.Native.Nat.{ℕ, zero, suc, _<_, _≤_}
 use lib.ListN.{length, drop}
 use lib.IntN.{pos}
 use borrow.Author.Tests.{eqb-false, ltb-false, not-false, ne-eqb, le-ltb}
-use Rattle.layout_theory.specs.Parameters.{Admitted, admits, orHamming, placesOf, messageOf}
-use Rattle.layout_theory.proofs.Parameters.{admits-admitted, admitted-admits}
+use Rattle.layout_theory.specs.Parameters.{admits, AdmittedOrZero, placesOf, messageOf}
+use Rattle.layout_theory.specs.Calls.{orHamming}
+use Rattle.layout_theory.proofs.Parameters.{admits-admitted, admitted-admits, admitted-zero}
 use Rattle.words_theory.specs.Words.{Word}
 use Rattle.shortened_theory.proofs.Whole.{new-zero}
 use Rattle.coder_theory.specs.State.{placesIn, messageIn, encodedIn, correctedIn, correctedPlaceIn, combineIn}
@@ -23,7 +24,7 @@ use Rattle.coder_theory.proofs.Accepted.{no-other-length, no-bad, inside}
 use Rattle.coder_theory.proofs.Accepts.{word-by}
 use Rattle.z2z4_theory.specs.Calls.{signed, codeFor, callReasons, encodeReasonsForC, encodeAnswerForC, encodeOutputForC, correctReasonsForC, correctAnswerForC, correctOutputForC}
 use Rattle.z2z4_theory.specs.Calls.{combineReasonsForC, combineAnswerForC, combineOutputForC, thirdReasonsForC, thirdAnswerForC}
-use Rattle.z2z4_theory.specs.Demand1.{refusalOf, OutsideOf, writeRowsForC, RefusedForC, AcceptsForC, UntouchedForC, Demand1ForC}
+use Rattle.z2z4_theory.specs.Demand1.{refusalOf, NotAdmitted, OutsideOf, writeRowsForC, RefusedForC, AcceptsForC, UntouchedForC, Demand1ForC}
 
 -- an answer tells its refusal
 tells : (n p : ℕ) → refusalOf (signed n p) ≡ n
@@ -51,6 +52,11 @@ module _ (t r : ℕ) where
   message = new-zero (messageOf t)
 
   -- ---- the rows
+  not-admitted : (notAdmitted t (orHamming t r) .applies ≡ true) ↔ NotAdmitted t r
+  not-admitted =
+      let a = one-applies t (orHamming t r) in
+      ((λ e h. a .0 e (admitted-zero t r .1 h)), λ n. a .1 (λ h. n (admitted-zero t r .0 h)))
+
   other-length : (n k : ℕ) (w : List ℕ) → n ≡ k → (wrongLength n w .applies ≡ true) ↔ (length w ≢ k)
   other-length n k w e = subst (λ (k : ℕ). (wrongLength n w .applies ≡ true) ↔ (length w ≢ k)) e (length-applies n w)
 
@@ -63,7 +69,7 @@ module _ (t r : ℕ) where
 
   write-rows : (n k : ℕ) (w out : List ℕ) → n ≡ k → Rowed (Unit {0}) (callReasons t r (writeInput code n w (length out))) (writeRowsForC t r k w out)
   write-rows n k w out e =
-      row (notAdmitted t (orHamming t r)) (λ z. one-applies t (orHamming t r))
+      row (notAdmitted t (orHamming t r)) (λ z. not-admitted)
       (row (wrongLength n w) (λ z. other-length n k w e)
       (row (shortOutput (placesIn code) (length out)) (λ z. too-short out) (row (badByte w) (λ z. byte-applies w) done)))
 
@@ -75,22 +81,22 @@ module _ (t r : ℕ) where
         correct = λ w out. by-first _ (correctReasonsForC t r w (length out)) _ refl refl (tells _ _) (write-rows (placesIn code) (placesOf t) w out all);
         combine = λ x y out.
             by-first _ (combineReasonsForC t r x y (length out)) _ refl refl (tells _ _)
-            (row (notAdmitted t (orHamming t r)) (λ z. one-applies t (orHamming t r))
+            (row (notAdmitted t (orHamming t r)) (λ z. not-admitted)
             (two (wrongLength (placesIn code) x) (wrongLength (placesIn code) y) refl (λ z. other-length (placesIn code) (placesOf t) x all) (λ z. other-length (placesIn code) (placesOf t) y all)
             (row (shortOutput (placesIn code) (length out)) (λ z. too-short out)
             (two (badByte x) (badByte y) refl (λ z. byte-applies x) (λ z. byte-applies y) done))));
         third = λ i j.
             by-first _ (thirdReasonsForC t r i j) _ refl refl (tells _ _)
-            (row (notAdmitted t (orHamming t r)) (λ z. one-applies t (orHamming t r))
+            (row (notAdmitted t (orHamming t r)) (λ z. not-admitted)
             (two (outside code i) (outside code j) refl (λ z. not-a-place i) (λ z. not-a-place j) (row (equalPlaces i j) (λ z. equal-applies i j) done)));
       }
 
   -- ---- accepted exactly where
-  admitted-by : notAdmitted t (orHamming t r) .applies ≡ false → Admitted t (orHamming t r)
-  admitted-by e = admits-admitted t (orHamming t r) (not-false (admits t (orHamming t r)) e)
+  admitted-by : notAdmitted t (orHamming t r) .applies ≡ false → AdmittedOrZero t r
+  admitted-by e = admitted-zero t r .0 (admits-admitted t (orHamming t r) (not-false (admits t (orHamming t r)) e))
 
-  by-admitted : Admitted t (orHamming t r) → notAdmitted t (orHamming t r) .applies ≡ false
-  by-admitted h = ap not (admitted-admits t (orHamming t r) h)
+  by-admitted : AdmittedOrZero t r → notAdmitted t (orHamming t r) .applies ≡ false
+  by-admitted h = ap not (admitted-admits t (orHamming t r) (admitted-zero t r .1 h))
 
   room-by : (out : List ℕ) → shortOutput (placesIn code) (length out) .applies ≡ false → placesOf t ≤ length out
   room-by out e = subst (λ (k : ℕ). k ≤ length out) all (ltb-false (length out) (placesIn code) e)
@@ -106,7 +112,7 @@ module _ (t r : ℕ) where
 
   write-where : (n k : ℕ) (w out : List ℕ) (p : ℕ) → n ≡ k
       → (refusalOf (signed (firstReason (callReasons t r (writeInput code n w (length out))) .number) p) ≡ 0)
-      ↔ (Admitted t (orHamming t r) × Word k w × (placesOf t ≤ length out))
+      ↔ (AdmittedOrZero t r × Word k w × (placesOf t ≤ length out))
   write-where n k w out p e = (
     (λ z.
         let h = accepted-none (callReasons t r (writeInput code n w (length out))) refl (sym (tells _ p) ∙ z) in

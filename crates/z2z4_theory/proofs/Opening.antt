@@ -9,7 +9,8 @@ use native.Mathlib.Omega.{arith}
 use borrow.Author.Tests.{lt-leb}
 use lib.Dec.{leb}
 use lib.ListN.{length, drop}
-use Rattle.layout_theory.specs.Parameters.{Admitted, admits, orHamming}
+use Rattle.layout_theory.specs.Parameters.{Admitted, admits}
+use Rattle.layout_theory.specs.Calls.{orHamming}
 use Rattle.layout_theory.proofs.Parameters.{admits-admitted, or-given}
 use Rattle.shortened_theory.specs.Code.{isLeftOut}
 use Rattle.coder_theory.specs.State.{Usable, fresh, placesIn, messageIn, encodedIn, correctedIn, correctedPlaceIn, correctedOldPlaceIn, combineIn, thirdIn, thirdOldPlaceIn}
@@ -21,12 +22,12 @@ use Rattle.coder_theory.proofs.Firsts.{NoneApplies, first-yes, first-no, first-
 use Rattle.coder_theory.proofs.States.{usable-true, state-past}
 use Rattle.coder_theory.proofs.Refusals.{opens-zero, opens-never, turned, opened-fresh, opened-usable}
 use Rattle.coder_theory.proofs.Bounds.{numbers, open-refusal}
-use Rattle.z2z4_theory.specs.Calls.{signed, codeFor, callReasons, encodeAnswerForC, encodeOutputForC, correctAnswerForC, correctOutputForC}
+use Rattle.z2z4_theory.specs.Calls.{signed, openedForC, codeFor, callReasons, encodeAnswerForC, encodeOutputForC, correctAnswerForC, correctOutputForC}
 use Rattle.z2z4_theory.specs.Calls.{combineAnswerForC, combineOutputForC, thirdAnswerForC}
-use Rattle.z2z4_theory.specs.Claims.{openedForC, AsOpened, encodeTold, correctTold, combineTold, thirdTold, EncodesAsOpened, CorrectsAsOpened, CombinesAsOpened, ThirdAsOpened, AsOpenedCalls, ZeroIsT}
+use Rattle.z2z4_theory.specs.Claims.{AsOpened, encodeTold, correctTold, combineTold, thirdTold, EncodesAsOpened, CorrectsAsOpened, CombinesAsOpened, ThirdAsOpened, AsOpenedFor, AsOpenedCalls, ZeroIsT}
 
--- ---- what a call makes of an opening that answered o: z, where v is what comes of opening
-module _ {A : Type 0} {t r : ℕ} {v z : A} {x : ℕ → A} {f : Record → A} {o : Opened} (a : AsOpened t r v x f) (e : o ≡ openedForC t r) where
+-- ---- what a call makes of an opening that answered o, which is p: z, where v is what comes of p
+module _ {A : Type 0} {v z : A} {x : ℕ → A} {f : Record → A} {o p : Opened} (a : AsOpened p v x f) (e : o ≡ p) where
   pub by-refusal : o .refusal ≢ 0 → z ≡ x (o .refusal) → z ≡ v
   by-refusal h y = y ∙ ap (λ (o : Opened). x (o .refusal)) e ∙ sym (a .refused (λ n. h (ap (λ (o : Opened). o .refusal) e ∙ n)))
 
@@ -34,7 +35,7 @@ module _ {A : Type 0} {t r : ℕ} {v z : A} {x : ℕ → A} {f : Record → A} {
   by-record h y = y ∙ ap (λ (o : Opened). f (o .«record»)) e ∙ sym (a .given (sym (ap (λ (o : Opened). o .refusal) e) ∙ h))
 
 -- admitted t and r are opened
-pub with-fresh : {A : Type 0} (t r : ℕ) → Admitted t r → {v : A} {x : ℕ → A} {f : Record → A} → AsOpened t r v x f → v ≡ f (fresh t r 0)
+pub with-fresh : {A : Type 0} (t r : ℕ) → Admitted t r → {v : A} {x : ℕ → A} {f : Record → A} → AsOpened (openedForC t r) v x f → v ≡ f (fresh t r 0)
 unfolding openedForC
 with-fresh t r ok {f = f} a =
     let e = ap (λ (k : ℕ). opened t k 0) (or-given t r (λ z. let i = ok .binary in omega arith)) ∙ opens-zero t r ok in
@@ -85,7 +86,7 @@ module _ (t r : ℕ) where
   -- what f makes of the first reason's number is x of it where opening is refused, and else what is known of the code
   made : {A : Type 0} (rs : List Reason) (f x : ℕ → A) (g : Record → A) → ((n : ℕ) → f (suc n) ≡ x (suc n))
       → f (firstReason (stateReasons (codeFor t r) ++ rs) .number) ≡ g (codeFor t r)
-      → AsOpened t r (f (firstReason (callReasons t r rs) .number)) x g
+      → AsOpened (openedForC t r) (f (firstReason (callReasons t r rs) .number)) x g
   made rs f x g same known =
       record {
         refused = λ h. ap f (stopped rs h) ∙ positive (openedForC t r .refusal) h;
@@ -127,7 +128,7 @@ not-full t r w out =
     (none-left (correctedOldPlaceIn (codeFor t r) w), (refl, tt))
 
 -- ---- the four calls
-pub encodes-as-opened : (t r : ℕ) (m out : List ℕ) → EncodesAsOpened t r m out
+pub encodes-as-opened : (t r : ℕ) (m out : List ℕ) → EncodesAsOpened (openedForC t r) t r m out
 unfolding encodeAnswerForC encodeOutputForC encodeAnswer encodeOutput
 encodes-as-opened t r m out =
     let rec = codeFor t r in
@@ -139,7 +140,7 @@ encodes-as-opened t r m out =
           (λ rec. encodeOutput rec m out) (λ n. refl) refl;
     }
 
-pub corrects-as-opened : (t r : ℕ) (w out : List ℕ) → CorrectsAsOpened t r w out
+pub corrects-as-opened : (t r : ℕ) (w out : List ℕ) → CorrectsAsOpened (openedForC t r) t r w out
 unfolding correctAnswerForC correctOutputForC correctAnswer correctOutput
 corrects-as-opened t r w out =
     let rec = codeFor t r in
@@ -153,7 +154,7 @@ corrects-as-opened t r w out =
       writes = made t r rs written (λ n. out) (λ rec. correctOutput rec w out) (λ n. refl) (ap (λ (x : Reason). written (x .number)) same);
     }
 
-pub combines-as-opened : (t r : ℕ) (x y out : List ℕ) → CombinesAsOpened t r x y out
+pub combines-as-opened : (t r : ℕ) (x y out : List ℕ) → CombinesAsOpened (openedForC t r) t r x y out
 unfolding combineAnswerForC combineOutputForC combineAnswer combineOutput
 combines-as-opened t r x y out =
     let rec = codeFor t r in
@@ -165,7 +166,7 @@ combines-as-opened t r x y out =
           (λ rec. combineOutput rec x y out) (λ n. refl) refl;
     }
 
-pub third-as-opened : (t r i j : ℕ) → ThirdAsOpened t r i j
+pub third-as-opened : (t r i j : ℕ) → ThirdAsOpened (openedForC t r) t r i j
 unfolding thirdAnswerForC thirdAnswer
 third-as-opened t r i j =
     let rec = codeFor t r in
@@ -177,13 +178,18 @@ third-as-opened t r i j =
           ∙ told (firstReason (thirdReasons rec i j)) (thirdIn rec i j));
     }
 
-pub as-opened : AsOpenedCalls
-as-opened t r = record {
+all-as-opened : (t r : ℕ) → AsOpenedFor (openedForC t r) t r
+all-as-opened t r = record {
   encode = encodes-as-opened t r;
   correct = corrects-as-opened t r;
   combine = combines-as-opened t r;
   third = third-as-opened t r;
 }
+
+-- an r that is given is the one opened with
+pub as-opened : AsOpenedCalls
+unfolding openedForC
+as-opened t r h = subst (λ (k : ℕ). AsOpenedFor (opened t k 0) t r) (or-given t r h) (all-as-opened t r)
 
 -- ---- r = 0
 pub zero-is-t : ZeroIsT

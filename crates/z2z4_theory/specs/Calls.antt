@@ -3,19 +3,23 @@ use mathlib.Core.List.{List, _∷_}
 use Prim.Native.Nat.{ℕ}
 use lib.ListN.{length}
 use lib.IntN.{ℤ, pos, negℤ}
-use Rattle.layout_theory.specs.Parameters.{orHamming}
+use Rattle.layout_theory.specs.Calls.{orHamming}
 use Rattle.coder_theory.specs.State.{fresh, placesIn, messageIn, encodedIn, correctedIn, correctedPlaceIn, combineIn, thirdIn}
 use Rattle.coder_theory.specs.Reasons.{Reason, firstReason, notAdmitted}
-use Rattle.coder_theory.specs.Calls.{ifAccepted, writeInput, combineInput, placesInput, outputOf}
+use Rattle.coder_theory.specs.Calls.{ifAccepted, opened, writeInput, combineInput, placesInput, outputOf}
 use Rattle.coder_theory.specs.declared.Record.{Record}
+use Rattle.coder_theory.specs.declared.Opened.{Opened}
 
 -- "They answer 0 or the place as a signed 32-bit number, and a refusal as its negated number": of a refusal x, which is 0 where the call is
 -- accepted, and a place p; "the place of a bad byte is not told there"
 abbrev pub signed : ℕ → ℕ → ℤ
 signed x p = ifAccepted x (pos p) (negℤ (pos x))
 
--- "by t and r, with no record": the code with t and r, where "r given as 0 means r = t" as before request C-13, as a record with nothing
--- counted; "C calls and sheet use s = 0" (request C-17)
+-- "they turn 0 into r = t themselves, before opening" (request C-13); "C calls and sheet use s = 0" (request C-17)
+unfoldable pub openedForC : ℕ → ℕ → Opened
+openedForC t r = opened t (orHamming t r) 0
+
+-- "by t and r, with no record": the code with t and r as a record with nothing counted
 abbrev pub codeFor : ℕ → ℕ → Record
 codeFor t r = fresh t (orHamming t r) 0
 

@@ -3,7 +3,7 @@ use borrow.Author.Needs.{needs}
 use mathlib.Core.Path.{ap, _∙_}
 use Prim.Native.Nat.{ℕ}
 use Rattle.coder_theory.specs.Calls.{opened}
-use Rattle.z2z4_theory.specs.Claims.{openedForC}
+use Rattle.z2z4_theory.specs.Calls.{openedForC}
 use Rattle.z2z4.proofs.open.Statement.{statement}
 use Rattle.z2z4.proofs.open.Tie as tie
 

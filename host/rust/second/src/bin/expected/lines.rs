@@ -40,6 +40,12 @@ pub fn opening(t: u32, r: u32, s: u32) -> String {
     format!("open {t} {r} {s} {shown}\n")
 }
 
+/// The line of the call for C with t and r, admitted or not: the third place of 1 and 2.
+pub fn third_for_c(t: u32, r: u32) -> String {
+    let third = Code::or_hamming(t, r).and_then(|code| code.third_place(1, 2));
+    format!("third {}\n", told(third))
+}
+
 /// The answer as C has it, and after it the place in a refusal, where one is told.
 fn told(answer: Result<u32, Refusal>) -> String {
     match answer {
@@ -82,6 +88,15 @@ mod tests {
         assert_eq!(opening(3, 2, 1), "open 3 2 1 code 3 2 1 6 3\n");
         assert_eq!(opening(4, 0, 0), "open 4 0 0 code 4 2 0 15 11\n");
         assert_eq!(opening(3, 2, 3), "open 3 2 3 refused 10\n");
+    }
+
+    #[test]
+    fn thirds_for_c() {
+        assert_eq!(third_for_c(3, 2), "third 5\n");
+        assert_eq!(third_for_c(3, 3), "third 3\n");
+        assert_eq!(third_for_c(3, 0), "third 3\n");
+        assert_eq!(third_for_c(4, 5), "third -1\n");
+        assert_eq!(third_for_c(1, 0), "third -1\n");
     }
 
     #[test]

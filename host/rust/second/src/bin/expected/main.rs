@@ -1,6 +1,6 @@
 //! Writes to standard output what the engine's program `larger` has to print: every opening
-//! for t = 0..11 and r = 0..12; for each code three rounds of calls on drawn words, and
-//! rounds in some of its shortened codes; then every word of the short codes.
+//! for t = 0..11 and r = 0..12, and a call for C with each; for each code three rounds of calls
+//! on drawn words, and rounds in some of its shortened codes; then every word of the short codes.
 
 mod digest;
 mod every;
@@ -24,6 +24,7 @@ fn expected() -> String {
         for r in 0..=12 {
             text += &openings::with_each_s(t, r);
             text += &lines::opening(t, r, 0);
+            text += &lines::third_for_c(t, r);
             // r = 0 opens a code that has its rounds under the r in force.
             if r != 0 {
                 text += &rounds(t, r);
