@@ -12,7 +12,8 @@
 
 struct table;
 
-/* NULL where t and r are not admitted; free() gives it back. Ends the program where there is no memory. */
+/* NULL where t and r are not admitted, r = 0 standing for r = t as in z2z4.h; free() gives it back. Ends the program
+ * where there is no memory. */
 struct table *table_prepare(uint32_t t, uint32_t r);
 
 /* A table that is NULL is refused as not admitted. */

@@ -1,7 +1,7 @@
 // Every opening with t from 0 to 11 and r from 0 to 12, and a call for C with each. For each code that is
-// admitted, up to 1,023 places, three rounds of calls on drawn words, and rounds in some of its shortened codes; then every word of the
-// short codes. The file `stdout` beside src/ was written by a second program, which shares no code with the
-// engine: that this program prints the same text is the check.
+// admitted, up to 1,023 places, three rounds of calls on drawn words, and rounds in some of its shortened
+// codes; then every word of the short codes. The file `stdout` beside src/ was written by a second program,
+// which shares no code with the engine: that this program prints the same text is the check.
 mod alter;
 mod digest;
 mod draw;

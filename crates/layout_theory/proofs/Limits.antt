@@ -2,7 +2,7 @@
 -- smallest r of each t. Assumes nothing.
 use mathlib.Core.Path.{_≡_, refl, sym, _∙_}
 use mathlib.Core.Bool.{false, true≢false}
-use mathlib.Core.Logic.{_⊎_, inl, inr}
+use mathlib.Core.Logic.{_⊎_, inl, inr, ⊎-elim}
 use Prim.Native.Nat.{ℕ, _+_, _*_}
 use native.Mathlib.Omega.{arith}
 use native.Mathlib.Decide.{ℕ-discrete}
@@ -18,6 +18,16 @@ admitted-range t r =
         λ h. record { least = h .0; most = h .1; binary = h .2; within = h .3; twice = h .4 },
       );
       test = (admits-admitted t r, admitted-admits t r);
+      -- with itself every t of the range is admitted
+      orZero = (
+        ⊎-elim (λ h. (h .least, h .most, inr (h .binary, h .within, h .twice))) (λ e. (e .1 .least, e .1 .most, inl (e .0))),
+        λ h.
+            let l = h .0 in
+            ⊎-elim
+            (λ z. inr (z, record { least = l; most = h .1; binary = omega arith; within = omega arith; twice = omega arith }))
+            (λ k. inl (record { least = l; most = h .1; binary = k .0; within = k .1; twice = k .2 }))
+            (h .2),
+      );
     }
 
 not-admitted : (t r : ℕ) → admits t r ≡ false → Admitted t r → ⊥

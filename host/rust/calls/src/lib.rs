@@ -5,7 +5,8 @@
 //!
 //! The safe calls test nothing themselves. The library refuses every unfit input, and what it
 //! asks of its caller, that an output overlaps nothing that is read, Rust's borrowing gives.
-//! They answer as in z2z4.h: 0 or more is accepted, a refusal is its negated number.
+//! They answer as in z2z4.h: 0 or more is accepted, a refusal is its negated number; r = 0
+//! stands for r = t.
 
 use std::ptr;
 
