@@ -239,7 +239,8 @@ static void zero_is_t(uint32_t t)
     size_t n = t <= 12 ? Z2Z4_LENGTH(t) : 1023, message = n - (t <= 12 ? t : 10);
     for (int round = 0; round < 12; round++) {
         enum call call = round % 3;
-        struct buffer x = faulty_word(call == ENCODE ? message : n, EXACT, round < 9 ? GOOD : LAST_BAD), y = random_word(n);
+        enum bytes bytes = round < 9 ? GOOD : LAST_BAD;
+        struct buffer x = faulty_word(call == ENCODE ? message : n, EXACT, bytes), y = random_word(n);
         struct buffer zero = fresh(n + 2), twice = fresh(n + 2);
         int32_t answer = make_call(call, t, t, &x, &y, &twice);
         CHECK(make_call(call, t, 0, &x, &y, &zero) == answer, "call %d, t = %u: not %d", call, t, answer);
