@@ -6,7 +6,7 @@ use mathlib.Core.Bool.{Bool, true, false}
 use Prim.Native.Nat.{ℕ}
 use native.Mathlib.Omega.{arith}
 use Rattle.layout_theory.specs.Parameters.{smallestR}
-use Rattle.layout_theory.proofs.Parameters.{admits-admitted, admitted-admits}
+use Rattle.layout_theory.proofs.Parameters.{admits-admitted, admitted-admits, admitted-given}
 use Rattle.layout_theory.proofs.Limits.{defaults}
 use Rattle.shortened_theory.proofs.Between.{allows-allowed, allowed-allows, zero-allowed}
 use Rattle.coder_theory.specs.State.{Usable}
@@ -87,7 +87,7 @@ opens-with-zero t s =
           let x = b .least k a in
           let y = h .least (smallestR t) (b .admitted) in
           let e : smallestR t ≡ k = omega arith in
-          opened-same t 0 k s (e ∙ sym (in-force t k (λ z. let i = a .binary in omega arith)));
+          opened-same t 0 k s (e ∙ sym (in-force t k (admitted-given t k a)));
       refused = (
         (λ e h. opens-with t 0 s .refused .numbers .0 .0 e .1 (defaults t (h .0) (h .1) .smallest .admitted)),
         λ never. opens-with t 0 s .refused .numbers .0 .1 (tt, λ a. never (a .least, a .most)),

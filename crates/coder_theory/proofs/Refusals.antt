@@ -11,7 +11,7 @@ use lib.ListN.{length}
 use borrow.Author.Tests.{eqb-true, eqb-false, ltb-true, eq-eqb, ne-eqb, lt-ltb, not-true}
 use Rattle.layout_theory.specs.Parameters.{Admitted, admits}
 use Rattle.layout_theory.specs.Calls.{orHamming}
-use Rattle.layout_theory.proofs.Parameters.{admits-admitted, admitted-admits}
+use Rattle.layout_theory.proofs.Parameters.{admits-admitted, admitted-admits, admitted-given}
 use Rattle.words_theory.specs.Words.{Bits}
 use Rattle.shortened_theory.specs.Allowed.{Allowed, allows}
 use Rattle.shortened_theory.specs.Code.{LeftOut, isLeftOut}
@@ -140,13 +140,13 @@ in-force t (suc r) h = refl
 
 pub opens : (t r s : ℕ) → Admitted t r → Allowed t r s → opened t r s ≡ record { refusal = 0; «record» = fresh t r s }
 opens t r s h k =
-    let e = in-force t r (λ z. let b = h .binary in omega arith) in
+    let e = in-force t r (admitted-given t r h) in
     opened-yes t r s (ap (admits t) e ∙ admitted-admits t r h) (ap (λ (j : ℕ). allows t j s) e ∙ allowed-allows t r s k)
     ∙ ap {B = Opened} (λ (k : ℕ). record { refusal = 0; «record» = fresh t k s }) e
 
 -- with s = 0 every admitted pair does
-pub opens-zero : (t r : ℕ) → Admitted t r → opened t r 0 ≡ record { refusal = 0; «record» = fresh t r 0 }
-opens-zero t r h = opens t r 0 h (zero-allowed t r h)
+pub opens-whole : (t r : ℕ) → Admitted t r → opened t r 0 ≡ record { refusal = 0; «record» = fresh t r 0 }
+opens-whole t r h = opens t r 0 h (zero-allowed t r h)
 
 -- where 0 was turned into r = t, opening has no default to take: r is 0 only where t is, and half of that is 0 too
 pub turned : (t r : ℕ) → inForce t (orHamming t r) ≡ orHamming t r
@@ -155,8 +155,8 @@ turned (suc t) zero = refl
 turned t (suc r) = refl
 
 -- so it is refused where t and that r are not admitted
-pub opens-never : (t r s : ℕ) → admits t (orHamming t r) ≡ false → opened t (orHamming t r) s ≡ record { refusal = 1; «record» = fresh 0 0 0 }
-opens-never t r s h = opened-no t (orHamming t r) s (ap (admits t) (turned t r) ∙ h)
+pub turned-refused : (t r s : ℕ) → admits t (orHamming t r) ≡ false → opened t (orHamming t r) s ≡ record { refusal = 1; «record» = fresh 0 0 0 }
+turned-refused t r s h = opened-no t (orHamming t r) s (ap (admits t) (turned t r) ∙ h)
 
 -- a refused opening gives the closed record with every field 0
 pub opens-not : (t r s : ℕ) → opened t r s .refusal ≢ 0 → opened t r s .«record» ≡ fresh 0 0 0

@@ -47,6 +47,10 @@ admitted-admits t r h =
       le-leb _ _ (h .twice),
     )
 
+-- an admitted r is one that is given
+pub admitted-given : (t r : ℕ) → Admitted t r → r ≢ 0
+admitted-given t r h z = let b = h .binary in omega arith
+
 -- ---- r, or t where r is 0
 pub or-given : (t r : ℕ) → r ≢ 0 → orHamming t r ≡ r
 or-given t zero h = absurd (h refl)
@@ -57,7 +61,7 @@ admitted-or t zero h = inr (refl, h)
 admitted-or t (suc r) h = inl h
 
 or-admitted : (t r : ℕ) → AdmittedOrZero t r → Admitted t (orHamming t r)
-or-admitted t r (inl h) = subst (Admitted t) (sym (or-given t r (λ z. let b = h .binary in omega arith))) h
+or-admitted t r (inl h) = subst (Admitted t) (sym (or-given t r (admitted-given t r h))) h
 or-admitted t r (inr (z, h)) = subst (λ (k : ℕ). Admitted t (orHamming t k)) (sym z) h
 
 pub admitted-zero : (t r : ℕ) → Admitted t (orHamming t r) ↔ AdmittedOrZero t r

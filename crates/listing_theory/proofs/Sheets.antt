@@ -7,8 +7,8 @@ use native.Mathlib.Omega.{arith}
 use lib.ListN.{length, getD}
 use Rattle.layout_theory.specs.Parameters.{Admitted, admits, AdmittedOrZero}
 use Rattle.layout_theory.specs.Calls.{orHamming}
-use Rattle.layout_theory.proofs.Parameters.{admits-admitted, or-given, admitted-zero}
-use Rattle.coder_theory.proofs.Refusals.{opens-zero, opens-never}
+use Rattle.layout_theory.proofs.Parameters.{admits-admitted, admitted-given, or-given, admitted-zero}
+use Rattle.coder_theory.proofs.Refusals.{opens-whole, turned-refused}
 use Rattle.listing_theory.specs.Form.{readLine}
 use Rattle.listing_theory.specs.Spelling.{Spells}
 use Rattle.listing_theory.specs.Sheet.{answerText, lineText, sheetText}
@@ -36,11 +36,11 @@ module _ (input : List ℕ) where
   module _ (t r : ℕ) (s : Spells input t r) where
     of-admitted : Admitted t (orHamming t r) → sheetText input ≡ wholeSheet t (orHamming t r)
     unfolding lineText answerText
-    of-admitted h = of-line (Read t r) (spelt-is-read input t r s) ∙ ap answerText (opens-zero t (orHamming t r) h) ∙ listing-written t (orHamming t r) h
+    of-admitted h = of-line (Read t r) (spelt-is-read input t r s) ∙ ap answerText (opens-whole t (orHamming t r) h) ∙ listing-written t (orHamming t r) h
 
     of-other : admits t (orHamming t r) ≡ false → sheetText input ≡ refused1
     unfolding lineText answerText
-    of-other h = of-line (Read t r) (spelt-is-read input t r s) ∙ ap answerText (opens-never t r 0 h) ∙ line-one
+    of-other h = of-line (Read t r) (spelt-is-read input t r s) ∙ ap answerText (turned-refused t r 0 h) ∙ line-one
 
     not-seven : (b : Bool) → admits t (orHamming t r) ≡ b → sheetText input ≡ refused7 → ⊥
     not-seven true h e = differ 0 (sheetText input) refused7 (wholeSheet t (orHamming t r)) e (of-admitted (admits-admitted t (orHamming t r) h)) (λ z. omega arith)
@@ -52,7 +52,7 @@ module _ (input : List ℕ) where
 
     of-given : Admitted t r → sheetText input ≡ wholeSheet t r
     of-given h =
-        let e = or-given t r (λ z. let b = h .binary in omega arith) in
+        let e = or-given t r (admitted-given t r h) in
         of-admitted (subst (Admitted t) (sym e) h) ∙ ap (wholeSheet t) e
 
   unspelt : (l : Line) → readLine input ≡ l → ((t r : ℕ) → Spells input t r → ⊥) → sheetText input ≡ refused7

@@ -11,7 +11,7 @@ use lib.Dec.{leb}
 use lib.ListN.{length, drop}
 use Rattle.layout_theory.specs.Parameters.{Admitted, admits}
 use Rattle.layout_theory.specs.Calls.{orHamming}
-use Rattle.layout_theory.proofs.Parameters.{admits-admitted, or-given}
+use Rattle.layout_theory.proofs.Parameters.{admits-admitted, admitted-given, or-given}
 use Rattle.shortened_theory.specs.Code.{isLeftOut}
 use Rattle.coder_theory.specs.State.{Usable, fresh, placesIn, messageIn, encodedIn, correctedIn, correctedPlaceIn, correctedOldPlaceIn, combineIn, thirdIn, thirdOldPlaceIn}
 use Rattle.coder_theory.specs.Reasons.{Reason, firstReason, notAdmitted, leftOut, full}
@@ -20,7 +20,7 @@ use Rattle.coder_theory.specs.declared.Record.{Record}
 use Rattle.coder_theory.specs.declared.Opened.{Opened}
 use Rattle.coder_theory.proofs.Firsts.{NoneApplies, first-yes, first-no, first-end, first-before, first-past, first-last, accepted-none}
 use Rattle.coder_theory.proofs.States.{usable-true, state-past}
-use Rattle.coder_theory.proofs.Refusals.{opens-zero, opens-never, turned, opened-fresh, opened-usable}
+use Rattle.coder_theory.proofs.Refusals.{opens-whole, turned-refused, turned, opened-fresh, opened-usable}
 use Rattle.coder_theory.proofs.Bounds.{numbers, open-refusal}
 use Rattle.z2z4_theory.specs.Calls.{signed, openedForC, codeFor, callReasons, encodeAnswerForC, encodeOutputForC, correctAnswerForC, correctOutputForC}
 use Rattle.z2z4_theory.specs.Calls.{combineAnswerForC, combineOutputForC, thirdAnswerForC}
@@ -38,7 +38,7 @@ module _ {A : Type 0} {v z : A} {x : ℕ → A} {f : Record → A} {o p : Opened
 pub with-fresh : {A : Type 0} (t r : ℕ) → Admitted t r → {v : A} {x : ℕ → A} {f : Record → A} → AsOpened (openedForC t r) v x f → v ≡ f (fresh t r 0)
 unfolding openedForC
 with-fresh t r ok {f = f} a =
-    let e = ap (λ (k : ℕ). opened t k 0) (or-given t r (λ z. let i = ok .binary in omega arith)) ∙ opens-zero t r ok in
+    let e = ap (λ (k : ℕ). opened t k 0) (or-given t r (admitted-given t r ok)) ∙ opens-whole t r ok in
     a .given (ap (λ (o : Opened). o .refusal) e) ∙ ap (λ (o : Opened). f (o .«record»)) e
 
 -- opening's refusal can be told as a signed number
@@ -60,10 +60,10 @@ module _ (t r : ℕ) where
     where
       go : (b : Bool) → admits t (orHamming t r) ≡ b → openedForC t r .refusal ≡ firstReason one .number
       go true y =
-          ap (λ (o : Opened). o .refusal) (opens-zero t (orHamming t r) (admits-admitted t (orHamming t r) y))
+          ap (λ (o : Opened). o .refusal) (opens-whole t (orHamming t r) (admits-admitted t (orHamming t r) y))
           ∙ sym (ap (λ (x : Reason). x .number) (first-no (notAdmitted t (orHamming t r)) [] (ap not y) ∙ first-end))
       go false y =
-          ap (λ (o : Opened). o .refusal) (opens-never t r 0 y)
+          ap (λ (o : Opened). o .refusal) (turned-refused t r 0 y)
           ∙ sym (ap (λ (x : Reason). x .number) (first-yes (notAdmitted t (orHamming t r)) [] (ap not y)))
 
   -- and the record is that of the code
