@@ -67,7 +67,7 @@ $(OUT)/%_test: host/c/%_test.c host/c/testing.h host/c/table.h include/z2z4.h $(
 check: check-c check-rust
 
 # calls_test runs with the sanitizers and under valgrind; one of the two may be missing, and is then named.
-check-c: $(OUT)/example $(OUT)/calls_test $(OUT)/table_test $(OUT)/long_test
+check-c: $(OUT)/example $(OUT)/calls_test $(OUT)/table_test $(OUT)/long_test $(OUT)/stack_test
 	$(call need,$(CXX),check)
 	$(CC) $(WARN) -fsyntax-only include/z2z4.h
 	$(CC) $(WARN) -std=c11 -fsyntax-only include/z2z4.h
@@ -78,6 +78,7 @@ check-c: $(OUT)/example $(OUT)/calls_test $(OUT)/table_test $(OUT)/long_test
 	$(OUT)/try | diff host/c/try.out -
 	$(OUT)/table_test
 	$(OUT)/long_test
+	$(OUT)/stack_test
 	@set -e; ran=no; \
 	if echo 'int main(void) { return 0; }' | $(CC) $(SANITIZE) -x c - -o $(OUT)/probe 2>$(OUT)/probe.log; then \
 	    echo "calls_test with the sanitizers"; ran=yes; \
@@ -129,7 +130,8 @@ bench: $(LINKED)
 	$(call need,objcopy,bench)
 	+$(CARGO) run $(MANIFEST) -p bench -- --plot "$(PLOT)"
 
-# libFuzzer is guided by the branches of the second program, which is built for it with counters of them
+# libFuzzer is guided by the branches of the second program, which is built for it with counters of them; 1,100 bytes
+# give each place of two words of 4,095 places, and some more
 COUNTERS := -Cpasses=sancov-module -Cllvm-args=-sanitizer-coverage-level=3 \
     -Cllvm-args=-sanitizer-coverage-inline-8bit-counters -Cllvm-args=-sanitizer-coverage-pc-table
 fuzz: $(LINKED)
@@ -142,7 +144,7 @@ fuzz: $(LINKED)
 	clang $(WARN) -O1 -g -fsanitize=fuzzer,address,undefined -Iinclude host/c/fuzz.c $(LINKED) \
 	    $(OUT)/fuzz/release/libsecond_c.a -o $(OUT)/fuzz/calls
 	mkdir -p $(OUT)/fuzz/corpus
-	$(OUT)/fuzz/calls -max_total_time=$(SECONDS) -max_len=300 -timeout=10 -artifact_prefix=$(OUT)/fuzz/ $(OUT)/fuzz/corpus
+	$(OUT)/fuzz/calls -max_total_time=$(SECONDS) -max_len=1100 -timeout=10 -artifact_prefix=$(OUT)/fuzz/ $(OUT)/fuzz/corpus
 
 TO = $(DESTDIR)$(PREFIX)
 install: library | $(OUT)

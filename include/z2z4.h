@@ -1,10 +1,10 @@
 /*
- * z2z4.h: encode and correct with the 1-perfect Z2Z4-additive codes (Borges and Rifa), up to length 1,023.
+ * z2z4.h: encode and correct with the 1-perfect Z2Z4-additive codes (Borges and Rifa), up to length 4,095.
  *
  * A code is a set of binary words of n places. Every binary word of n places is a codeword or differs in exactly
  * one place from exactly one codeword; so a single flipped place is always corrected, and two flipped ones never are.
  *
- * Parameters. Each call names its code by t and r. Admitted are t from 2 to 10 with 1 <= r <= t <= 2r. r given as 0
+ * Parameters. Each call names its code by t and r. Admitted are t from 2 to 12 with 1 <= r <= t <= 2r. r given as 0
  * stands for r = t (the Hamming code, its places in this library's order), in these calls and in the sheet program;
  * only where a record is opened in Rattle does 0 stand for another r, the smallest that is admitted. The number of
  * places is n = 2^t - 1. A message has n - t places, and a codeword begins with its message. Codes with the same t and
@@ -23,6 +23,8 @@
  * is 0 (the call is then refused like any other with that length). out must not overlap what is read; the two words
  * of z2z4_combine are only read and may be one. The calls keep no state, allocate no memory and do no input or
  * output: threads may call them at once, each with an output of its own.
+ *
+ * Stack. A call needs under 32 KiB of stack. That is measured with every code (make check), not proved.
  *
  * What is proved is what the functions do as Rattle functions: the contracts in crates/z2z4/src/lib.rt. That this
  * header declares them rightly is tested (make check), not proved. The library is for Linux on x86-64.

@@ -1,6 +1,6 @@
 /*
  * calls_test.c: the four calls of z2z4.h on good and bad input: every reason and every meeting of reasons, document
- * 01's cases, that r = 0 is r = t, and what each code promises, for all t and r from 0 to 12 and some huge ones.
+ * 01's cases, that r = 0 is r = t, and what each code promises, for all t and r from 0 to 14 and some huge ones.
  *
  * It ends at the first check that fails. `make check` runs it with gcc's sanitizers, which watch this file but not the
  * library (gcc does not compile it), and under valgrind, which watches both.
@@ -32,7 +32,14 @@ static void expect(enum call call, uint32_t t, uint32_t r, struct buffer *x, str
         check_kept(y, "what is read second");
 }
 
-/* The faults that an argument may have. A code that is not admitted is asked with the lengths of some code. */
+/* The t that gives a call its lengths: its own, though the code may not be admitted. Beyond 13 words of such lengths
+ * would take memory and time and show no more, and from 64 on there are none; there it is 12. */
+static uint32_t t_of_lengths(uint32_t t)
+{
+    return t <= MOST_T + 1 ? t : MOST_T;
+}
+
+/* The faults that an argument may have. */
 enum length { EXACT, ONE_LESS, ONE_MORE, NONE, LENGTHS };
 enum bytes { GOOD, FIRST_BAD, LAST_BAD, BYTES };
 
@@ -64,10 +71,18 @@ static int32_t first_reason(int admitted, enum length x, enum length y, enum len
     return bad ? -4 : 0;
 }
 
+/* An admitted code meets every fault. Where t and r are not admitted, that is the reason whatever else is at fault; so
+ * there an r meets one fault in seven, and seven in a row meet all. */
+static uint32_t fault_step(uint32_t t, uint32_t r)
+{
+    return is_admitted(t, r) ? 1 : 7;
+}
+
 /* Refused calls with these faults; the accepted ones are tested by what they write, in `promises`. */
 static void reasons_of_one(enum call call, uint32_t t, uint32_t r, size_t n, size_t read)
 {
-    for (int fault = 0; fault < LENGTHS * LENGTHS * BYTES; fault++) {
+    enum { FAULTS = LENGTHS * LENGTHS * BYTES };
+    for (uint32_t fault = r % fault_step(t, r); fault < FAULTS; fault += fault_step(t, r)) {
         enum length length = fault % LENGTHS, room = fault / LENGTHS % LENGTHS;
         enum bytes bytes = fault / LENGTHS / LENGTHS;
         int32_t reason = first_reason(is_admitted(t, r), length, EXACT, room, bytes != GOOD);
@@ -82,10 +97,11 @@ static void reasons_of_one(enum call call, uint32_t t, uint32_t r, size_t n, siz
 
 static void reasons_of_combine(uint32_t t, uint32_t r, size_t n)
 {
-    for (int fault = 0; fault < LENGTHS * LENGTHS * LENGTHS * BYTES * BYTES; fault++) {
+    enum { FAULTS = LENGTHS * LENGTHS * LENGTHS * BYTES * BYTES };
+    for (uint32_t fault = r % fault_step(t, r); fault < FAULTS; fault += fault_step(t, r)) {
         enum length first = fault % LENGTHS, second = fault / LENGTHS % LENGTHS;
         enum length room = fault / LENGTHS / LENGTHS % LENGTHS;
-        int bytes = fault / LENGTHS / LENGTHS / LENGTHS;
+        uint32_t bytes = fault / LENGTHS / LENGTHS / LENGTHS;
         int32_t reason = first_reason(is_admitted(t, r), first, second, room, bytes != 0);
         if (reason == 0)
             continue;
@@ -131,7 +147,7 @@ static void nulls(enum call call, uint32_t t, uint32_t r, size_t n, size_t read)
 
 static void refusals(uint32_t t, uint32_t r)
 {
-    size_t n = t <= 12 ? Z2Z4_LENGTH(t) : 1023, message = n - (t <= 12 ? t : 10);
+    size_t n = Z2Z4_LENGTH(t_of_lengths(t)), message = Z2Z4_MESSAGE_LENGTH(t_of_lengths(t));
     reasons_of_one(ENCODE, t, r, n, message);
     reasons_of_one(CORRECT, t, r, n, n);
     reasons_of_combine(t, r, n);
@@ -185,6 +201,19 @@ static void document_cases(void)
     }
 }
 
+/* Pairs of t and r that document 01 and requests C-11 and C-15 name, and others beside the limit: the third place of 1
+ * and 2, worked out by hand or by search, or the refusal. */
+static void document_parameters(void)
+{
+    static const int32_t pair[][3] = {{2, 1, 3},   {2, 2, 3},   {4, 2, 3},     {10, 5, 3},  {10, 10, 3},  {11, 6, 2037},
+                                      {12, 6, 3},  {12, 12, 3}, {1, 1, -1},    {5, 2, -1},  {4, 5, -1},   {11, 5, -1},
+                                      {12, 5, -1}, {13, 7, -1}, {12, 13, -1},  {13, 0, -1}, {13, 13, -1}, {14, 7, -1}};
+    for (size_t i = 0; i < sizeof pair / sizeof *pair; i++) {
+        int32_t given = z2z4_third_place((uint32_t)pair[i][0], (uint32_t)pair[i][1], 1, 2);
+        CHECK(given == pair[i][2], "(%d, %d) answers %d", pair[i][0], pair[i][1], given);
+    }
+}
+
 /* A word with these three places set is a codeword. */
 static void third_promise(uint32_t t, uint32_t r, uint32_t i, uint32_t j)
 {
@@ -218,7 +247,7 @@ static void combine_promise(uint32_t t, uint32_t r, struct buffer *x, size_t fur
     uint32_t in_force = r == 0 ? t : r, a = 2 * in_force - t;
     size_t n = x->length, front = Z2Z4_LENGTH(in_force) - a, check = n - t;
     struct buffer y = fresh(n), out = fresh(n + further);
-    uint8_t twice[1023] = {0};
+    uint8_t twice[MOST_PLACES] = {0};
     memcpy(y.at, x->at, n);
     keep(&y);
     for (size_t i = front; i < n; i += 2) {
@@ -236,7 +265,7 @@ static void combine_promise(uint32_t t, uint32_t r, struct buffer *x, size_t fur
 /* r = 0 is r = t in each call, whether or not t is admitted: the same answer, and the same bytes. */
 static void zero_is_t(uint32_t t)
 {
-    size_t n = t <= 12 ? Z2Z4_LENGTH(t) : 1023, message = n - (t <= 12 ? t : 10);
+    size_t n = Z2Z4_LENGTH(t_of_lengths(t)), message = Z2Z4_MESSAGE_LENGTH(t_of_lengths(t));
     for (int round = 0; round < 12; round++) {
         enum call call = round % 3;
         enum bytes bytes = round < 9 ? GOOD : LAST_BAD;
@@ -285,13 +314,14 @@ static void promises(uint32_t t, uint32_t r)
 
 int main(void)
 {
-    static const uint32_t value[] = {0,  1,  2,  3,  4,  5,  6,        7,              8,         9,
-                                     10, 11, 12, 31, 32, 33, 1u << 31, UINT32_MAX - 1, UINT32_MAX};
+    static const uint32_t value[] = {0,  1,  2,  3,  4,  5,  6,  7,  8,        9,              10,
+                                     11, 12, 13, 14, 31, 32, 33, 1u << 31, UINT32_MAX - 1, UINT32_MAX};
     enum { VALUES = sizeof value / sizeof *value };
     int codes = 0;
     for (int pass = 0; pass < 2; pass++) {
         guarded = pass == 0;
         document_cases();
+        document_parameters();
         for (size_t i = 0; i < VALUES; i++)
             zero_is_t(value[i]);
         for (size_t i = 0; i < VALUES * VALUES; i++) {
@@ -303,7 +333,7 @@ int main(void)
             }
         }
     }
-    CHECK(codes == 2 * (34 + 9), "%d codes", codes);
+    CHECK(codes == 2 * (CODES + MOST_T - 1), "%d codes", codes); /* r = 0 is there for each t */
     puts("calls_test: all checks hold");
     return 0;
 }

@@ -1,5 +1,5 @@
 /*
- * example.c: what the library does, at a code of 15 places (t = 4, r = 2) and one of 1,023 (t = 10, r = 5).
+ * example.c: what the library does, at a code of 15 places (t = 4, r = 2) and one of 4,095 (t = 12, r = 6).
  *
  * What it prints is stored in example.out. It ends with status 1 at the first answer that is not as expected.
  */
@@ -59,7 +59,7 @@ static void small_code(void)
 
 static void large_code(void)
 {
-    enum { T = 10, R = 5, N = Z2Z4_LENGTH(T), M = Z2Z4_MESSAGE_LENGTH(T) };
+    enum { T = 12, R = 6, N = Z2Z4_LENGTH(T), M = Z2Z4_MESSAGE_LENGTH(T) };
     static uint8_t message[M], codeword[N], word[N], corrected[N];
 
     printf("\nt = %d, r = %d: %d places, %d of them for the message\n", T, R, N, M);

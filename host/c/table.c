@@ -2,8 +2,10 @@
  * table.c: the codes by tables of the layout, written from document 01; see table.h.
  *
  * An element is held in two forms. Its number has one bit for each binary component and two for each quaternary one,
- * in document 01's order. Its wide form has six bits for each component, so that sixteen elements can be added before
- * the sums are reduced modulo 2 and 4. Places count from 0 in here, from 1 in what is asked and answered.
+ * in document 01's order. Its wide form has five bits for each binary component and six for each quaternary one, so
+ * that sixteen elements can be added to one before the sums, up to 1 + 16 and 3 + 16 * 3, are reduced modulo 2 and 4.
+ * These are 60 bits at most, for the twelve binary components of (12, 12). Places count from 0 in here, from 1 in what
+ * is asked and answered.
  */
 #include "table.h"
 
@@ -12,7 +14,7 @@
 
 #include "z2z4.h"
 
-enum { MOST_PLACES = 1023, MOST_PAIRS = 496, WIDTH = 6, BLOCK = 16 };
+enum { MOST_T = 12, MOST_PLACES = 4095, MOST_PAIRS = 2016, BINARY_WIDTH = 5, QUATERNARY_WIDTH = 6, BLOCK = 16 };
 
 struct table {
     uint32_t t, a, b, n;
@@ -25,13 +27,24 @@ struct table {
     uint16_t place[MOST_PLACES + 1];     /* the place of each number but 0 */
 };
 
+/* Where a component begins in the wide form. */
+static uint32_t binary_at(uint32_t i)
+{
+    return BINARY_WIDTH * i;
+}
+
+static uint32_t quaternary_at(const struct table *s, uint32_t i)
+{
+    return BINARY_WIDTH * s->a + QUATERNARY_WIDTH * i;
+}
+
 static uint64_t widen(const struct table *s, uint32_t number)
 {
     uint64_t wide = 0;
     for (uint32_t i = 0; i < s->a; i++)
-        wide |= (uint64_t)(number >> i & 1) << WIDTH * i;
+        wide |= (uint64_t)(number >> i & 1) << binary_at(i);
     for (uint32_t i = 0; i < s->b; i++)
-        wide |= (uint64_t)(number >> (s->a + 2 * i) & 3) << WIDTH * (s->a + i);
+        wide |= (uint64_t)(number >> (s->a + 2 * i) & 3) << quaternary_at(s, i);
     return wide;
 }
 
@@ -39,9 +52,9 @@ static uint32_t narrow(const struct table *s, uint64_t wide)
 {
     uint32_t number = 0;
     for (uint32_t i = 0; i < s->a; i++)
-        number |= (uint32_t)(wide >> WIDTH * i & 1) << i;
+        number |= (uint32_t)(wide >> binary_at(i) & 1) << i;
     for (uint32_t i = 0; i < s->b; i++)
-        number |= (uint32_t)(wide >> WIDTH * (s->a + i) & 3) << (s->a + 2 * i);
+        number |= (uint32_t)(wide >> quaternary_at(s, i) & 3) << (s->a + 2 * i);
     return number;
 }
 
@@ -113,7 +126,7 @@ struct table *table_prepare(uint32_t t, uint32_t r)
 {
     if (r == 0)
         r = t;
-    if (t < 2 || t > 10 || r < 1 || r > t || t > 2 * r)
+    if (t < 2 || t > MOST_T || r < 1 || r > t || t > 2 * r)
         return NULL;
     struct table *s = calloc(1, sizeof *s);
     if (s == NULL)
@@ -126,8 +139,7 @@ struct table *table_prepare(uint32_t t, uint32_t r)
     s->middle = (s->n - t - s->front) / 2;
     for (uint32_t i = 0; i < s->b; i++)
         s->low |= (uint32_t)1 << (s->a + 2 * i);
-    for (uint32_t i = 0; i < r; i++)
-        s->reduce |= (uint64_t)(i < s->a ? 1 : 3) << WIDTH * i;
+    s->reduce = widen(s, s->n); /* the number with every bit set */
     uint32_t at = lay_out(s, 0, 0, s->binary, s->digit);
     lay_out(s, at, 1, s->binary + s->front, s->digit + s->middle);
     return s;
@@ -205,9 +217,9 @@ int32_t table_encode(const struct table *table, const uint8_t *message, size_t m
     memcpy(out, message, message_len);
     uint8_t *check = out + message_len;
     for (uint32_t i = 0; i < table->a; i++)
-        *check++ = total >> WIDTH * i & 1;
+        *check++ = total >> binary_at(i) & 1;
     for (uint32_t i = 0; i < table->b; i++) {
-        uint32_t digit = -(uint32_t)(total >> WIDTH * (table->a + i)) & 3;
+        uint32_t digit = -(uint32_t)(total >> quaternary_at(table, i)) & 3;
         *check++ = (uint8_t)(digit >> 1);
         *check++ = (uint8_t)((digit >> 1) ^ (digit & 1));
     }

@@ -1,6 +1,6 @@
 /*
  * table_test.c: the calls by tables (table.h) and those of the library give the same answers and write the same bytes,
- * on random words of every code, some with a bad byte, a wrong length or a short output.
+ * on words of every code, random and dense ones, some with a bad byte, a wrong length or a short output.
  */
 #include "table.h"
 #include "testing.h"
@@ -16,9 +16,19 @@ static size_t near(size_t exact)
     return draw == 0 ? exact - 1 : draw == 1 ? exact + 1 : exact;
 }
 
+/* Ones only, or ones at every second place, so that every pair has digit 2, 3 or 1: the largest sums of elements. */
+static void make_dense(struct buffer *x)
+{
+    uint32_t two = 1 + below(3);
+    for (size_t i = 0; i < x->length; i++)
+        x->at[i] = two >> i % 2 & 1;
+}
+
 static struct buffer near_word(size_t exact)
 {
     struct buffer x = random_word(near(exact));
+    if (below(4) == 0)
+        make_dense(&x);
     if (x.length > 0 && below(16) == 0)
         x.at[below((uint32_t)x.length)] = (uint8_t)below(256);
     keep(&x);
@@ -69,8 +79,8 @@ static void one_round(const struct table *table, uint32_t t, uint32_t r)
 int main(void)
 {
     guarded = 1;
-    for (uint32_t t = 0; t <= 12; t++)
-        for (uint32_t r = 0; r <= 12; r++) {
+    for (uint32_t t = 0; t <= MOST_T + 2; t++)
+        for (uint32_t r = 0; r <= MOST_T + 2; r++) {
             struct table *table = table_prepare(t, r);
             CHECK((table != NULL) == is_admitted(t, r), "(%u, %u)", t, r);
             for (int round = 0; table != NULL && round < ROUNDS; round++)

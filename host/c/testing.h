@@ -26,6 +26,9 @@
 
 enum { GUARD = 32, GUARD_BYTE = 0xa5, FRESH_BYTE = 7 };
 
+/* The largest t that is admitted, n of its codes, and how many pairs of t and r there are. */
+enum { MOST_T = 12, MOST_PLACES = 4095, CODES = 47 };
+
 static int guarded; /* which of the two passes this is */
 
 struct buffer {
@@ -72,27 +75,36 @@ static inline void release(struct buffer *x)
 }
 
 /* A fixed sequence (xorshift, 64 bits): each run tests the same words. */
-static inline uint32_t below(uint32_t bound)
+static inline uint32_t draw(void)
 {
     static uint64_t state = 88172645463325252u;
     state ^= state << 13;
     state ^= state >> 7;
     state ^= state << 17;
-    return (uint32_t)((state >> 32) % bound);
+    return (uint32_t)(state >> 32);
 }
 
+static inline uint32_t below(uint32_t bound)
+{
+    return draw() % bound;
+}
+
+/* A draw is good for 32 places: under valgrind the long words would else take most of the time. */
 static inline struct buffer random_word(size_t length)
 {
     struct buffer x = fresh(length);
-    for (size_t i = 0; i < length; i++)
-        x.at[i] = (uint8_t)below(2);
+    uint32_t bits = 0;
+    for (size_t i = 0; i < length; i++) {
+        bits = i % 32 == 0 ? draw() : bits >> 1;
+        x.at[i] = bits & 1;
+    }
     keep(&x);
     return x;
 }
 
 static inline int is_admitted(uint32_t t, uint32_t r)
 {
-    return 2 <= t && t <= 10 && (r == 0 || (1 <= r && r <= t && t <= 2 * r));
+    return 2 <= t && t <= MOST_T && (r == 0 || (1 <= r && r <= t && t <= 2 * r));
 }
 
 #endif

@@ -1,24 +1,30 @@
 -- Bounds on the lengths, on the refusals and on the places that are told, for callers that add them up or tell them as signed numbers.
 -- Assumes nothing.
-use mathlib.Core.Path.{_≡_, refl, ap}
+use mathlib.Core.Path.{_≡_, refl, sym, ap, _∙_}
 use mathlib.Core.Bool.{Bool, true, false, _&&_, not}
 use mathlib.Core.List.{List, [], _∷_}
 use Prim.Native.Nat.{ℕ, _^_, _≤_, _<_}
+use native.Mathlib.Decide.{ℕ-discrete}
 use native.Mathlib.Omega.{arith}
 use lib.Dec.{ltb}
 use lib.Pow.{pow-mono}
 use lib.ListN.{length}
 use borrow.Author.Tests.{ltb-true, eqb-false}
+use Rattle.group_theory.proofs.Numbers.{number-lt}
 use Rattle.layout_theory.specs.Parameters.{longest}
+use Rattle.layout_theory.proofs.Parameters.{size-for}
 use Rattle.words_theory.specs.Syndrome.{lengthOf}
 use Rattle.words_theory.proofs.Theorem.{length-code}
-use Rattle.coder_theory.specs.State.{Usable, isClosed, isUnfit, isNotAllowed, isUsable, placesIn, moduliIn, correctedPlaceIn}
+use Rattle.shortened_theory.specs.Code.{shortenedElementAt}
+use Rattle.coder_theory.specs.State.{Usable, isClosed, isUnfit, isNotAllowed, isUsable, placesIn, moduliIn, elementIn, correctedPlaceIn}
 use Rattle.coder_theory.specs.Reasons.{Reason, firstReason}
-use Rattle.coder_theory.specs.Calls.{wordLength, opened, openReasons, encodeReasons, encodeAnswer, correctReasons, correctAnswer}
+use Rattle.coder_theory.specs.Calls.{wordLength, layoutReasons, elementAnswer, opened, openReasons, encodeReasons, encodeAnswer, correctReasons, correctAnswer}
 use Rattle.coder_theory.specs.Calls.{combineReasons, combineAnswer, thirdReasons, thirdAnswer}
 use Rattle.coder_theory.specs.declared.Record.{Record}
 use Rattle.coder_theory.proofs.Firsts.{first-yes, first-no, first-end, accepted-none}
+use Rattle.coder_theory.proofs.Answers.{element-refusal, element-told}
 use Rattle.coder_theory.proofs.States.{true-usable}
+use Rattle.coder_theory.proofs.Refusals.{tells}
 use Rattle.coder_theory.proofs.Outcomes.{inside-by}
 use Rattle.coder_theory.proofs.Corrections.{correct-accepted, nearest-in}
 use Rattle.coder_theory.proofs.Triples.{thirds}
@@ -43,6 +49,22 @@ word-length-bound rec = go (isUsable rec) refl
     go : (b : Bool) → isUsable rec ≡ b → elim b as (λ _. ℕ) [ true ↦ placesIn rec | false ↦ 0 ] < 2 ^ longest
     go true e = let k = both-false (isClosed rec) (isUnfit rec) (isNotAllowed rec) e in places-bound rec (true-usable rec (k .0) (k .1))
     go false e = omega arith
+
+-- ---- the numbers of elements that a layout call tells, 0 where it is refused
+pub element-bound : (rec : Record) (p : ℕ) → elementAnswer rec p .element < 2 ^ longest
+unfolding elementIn
+element-bound rec p = go (ℕ-discrete (elementAnswer rec p .refusal) 0)
+  where
+    go : Dec (elementAnswer rec p .refusal ≡ 0) → elementAnswer rec p .element < 2 ^ longest
+    go (no n) = rw (element-told rec p .1 n) (omega arith)
+    go (yes e) =
+        let h = accepted-none (layoutReasons rec p) refl (sym (element-refusal rec p) ∙ e) in
+        let f = true-usable rec (h .1 .0) (h .1 .1 .0) in
+        let a = inside-by rec p (h .1 .1 .1 .0) in
+        let q : 2 ^ (rec .t) ≤ 2 ^ longest = pow-mono {i = rec .t} {j = longest} (f .fit .admitted .most) in
+        let s = size-for (rec .t) (rec .r) (f .fit .admitted) in
+        let n = number-lt (moduliIn rec) (shortenedElementAt (moduliIn rec) (rec .s) p) in
+        rw (tells rec p f (a .0) (a .1)) (omega arith)
 
 -- ---- refusals
 -- whether the numbers of the reasons are below k

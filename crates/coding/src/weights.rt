@@ -12,10 +12,9 @@ ghost use Rattle.group_theory.specs.Group.{moduli};
 ghost use Rattle.layout_theory.specs.Choice.{pick};
 ghost use Rattle.layout_theory.specs.Layout.{message};
 ghost use Rattle.blocks_theory.specs.Blocks.{plus, even, level, plusTo};
-ghost use Rattle.folds_theory.specs.Folds.{room};
+ghost use Rattle.folds_theory.specs.Folds.{room, Holds};
 ghost use Rattle.words_theory.specs.Syndrome.{syndromeOver};
 ghost use Rattle.loops_theory.specs.Spread.{spread, row, HoldsMessage};
-use folds::Weights;
 use group::Element;
 
 // The sum of the message's places: each single's byte and each pair's digit times its element.
@@ -23,18 +22,51 @@ pub(crate) fn message_sum(a: usize, b: usize, count: usize, part: usize, word: &
     requires { ⌜ HoldsMessage a b count part (length (now word)) ⌝ }
     ensures { λ r. ⌜ r ≡ syndromeOver (moduli a b) (message (moduli a b)) (now (word .entry)) ⌝ }
 {
-    folds::weighted(a, b, message_weights(a, b, count, part, word))
+    let t = a + 2 * b;
+    if t <= 6 {
+        return sum6(a, b, count, part, word);
+    }
+    if t <= 10 {
+        return sum10(a, b, count, part, word);
+    }
+    sum12(a, b, count, part, word)
 }
 
-// The weights of all places of the message: those of the pairs, then those of the singles.
-fn message_weights(a: usize, b: usize, count: usize, part: usize, word: &[u8]) -> Weights
-    requires { ⌜ HoldsMessage a b count part (length (now word)) ⌝ }
-    ensures { λ r. ⌜ take count r ≡ spread true (moduli a b) (plus (level a b b)) (drop part (now (word .entry))) ++ spread false (moduli a b) (even (level a b b)) (now (word .entry)) ⌝ }
+// The sum by an array of weights that has room for codes up to t = 6, 10 and 12.
+fn sum6(a: usize, b: usize, count: usize, part: usize, word: &[u8]) -> Element
+    requires { ⌜ HoldsMessage a b count part (length (now word)) × (a + 2 * b ≤ 6) ⌝ }
+    ensures { λ r. ⌜ r ≡ syndromeOver (moduli a b) (message (moduli a b)) (now (word .entry)) ⌝ }
 {
-    let mut v = [0u8; folds::ROOM];
-    pairs(a, b, count, part, word, &mut v);
-    singles(a, b, count, part, word, &mut v);
-    v
+    let mut v = [0u8; folds::ROOM6];
+    lay(a, b, count, part, word, &mut v);
+    folds::weighted6(a, b, v)
+}
+
+fn sum10(a: usize, b: usize, count: usize, part: usize, word: &[u8]) -> Element
+    requires { ⌜ HoldsMessage a b count part (length (now word)) × (a + 2 * b ≤ 10) ⌝ }
+    ensures { λ r. ⌜ r ≡ syndromeOver (moduli a b) (message (moduli a b)) (now (word .entry)) ⌝ }
+{
+    let mut v = [0u8; folds::ROOM10];
+    lay(a, b, count, part, word, &mut v);
+    folds::weighted10(a, b, v)
+}
+
+fn sum12(a: usize, b: usize, count: usize, part: usize, word: &[u8]) -> Element
+    requires { ⌜ HoldsMessage a b count part (length (now word)) ⌝ }
+    ensures { λ r. ⌜ r ≡ syndromeOver (moduli a b) (message (moduli a b)) (now (word .entry)) ⌝ }
+{
+    let mut v = [0u8; folds::ROOM12];
+    lay(a, b, count, part, word, &mut v);
+    folds::weighted12(a, b, v)
+}
+
+// Lays out the weights of all places of the message: those of the pairs, then those of the singles.
+fn lay(a: usize, b: usize, count: usize, part: usize, word: &[u8], v: &mut [u8])
+    requires { ⌜ HoldsMessage a b count part (length (now word)) × Holds a b (length (now v)) ⌝ }
+    ensures { λ r. ⌜ take count (now (v .exit)) ≡ spread true (moduli a b) (plus (level a b b)) (drop part (now (word .entry))) ++ spread false (moduli a b) (even (level a b b)) (now (word .entry)) ⌝ }
+{
+    pairs(a, b, count, part, word, v);
+    singles(a, b, count, part, word, v);
 }
 
 // 2 to the power k.
@@ -47,7 +79,7 @@ fn power(k: usize) -> usize
 
 // The weights of the pairs: for each quaternary component a segment, up to the unit of the next one.
 fn pairs(a: usize, b: usize, count: usize, part: usize, word: &[u8], v: &mut [u8])
-    requires { ⌜ HoldsMessage a b count part (length (now word)) × (length (now v) ≡ room) ⌝ }
+    requires { ⌜ HoldsMessage a b count part (length (now word)) × Holds a b (length (now v)) ⌝ }
     ensures { λ r. ⌜ take (2 * plusTo a b b) (now (v .exit)) ≡ spread true (moduli a b) (plus (level a b b)) (drop part (now (word .entry))) ⌝ }
 {
     let mut p: usize = 0;
@@ -112,7 +144,7 @@ fn every_other(i: usize, d: u8) -> u8
 // The weights of the singles, behind those of the pairs: zero, for each binary component a segment, and the
 // others, among which there is no unit.
 fn singles(a: usize, b: usize, count: usize, part: usize, word: &[u8], v: &mut [u8])
-    requires { ⌜ HoldsMessage a b count part (length (now word)) × (length (now v) ≡ room) ⌝ }
+    requires { ⌜ HoldsMessage a b count part (length (now word)) × Holds a b (length (now v)) ⌝ }
     ensures { λ r. ⌜ take count (now (v .exit)) ≡ take (2 * plusTo a b b) (now (v .entry)) ++ spread false (moduli a b) (even (level a b b)) (now (word .entry)) ⌝ }
 {
     let e = part + a + 1;

@@ -7,6 +7,7 @@
 ghost use mathlib.Core.Path.{_≡_};
 ghost use mathlib.Core.List.{_++_};
 ghost use Prim.Native.Nat.{_+_, _*_, _%_, _^_, _<_, _≤_};
+ghost use lib.Dec.{leb};
 ghost use lib.ListN.{length, take, drop};
 ghost use lib.Seq.{paste};
 ghost use Rattle.group_theory.specs.Group.{moduli, size};
@@ -14,33 +15,68 @@ ghost use Rattle.group_theory.specs.Weights as weights;
 ghost use Rattle.blocks_theory.specs.Blocks.{plus, level, evenTo};
 ghost use Rattle.folds_theory.specs.Folds as folds;
 ghost use Rattle.folds_theory.specs.Folds.{stretch, firstPlus, firstTops, nextPlus, plusTops, nextLow, lowTops, stride, Halved};
-ghost use Rattle.folds_theory.specs.Folds.{room, widest, twice, weightOrder, weightedFor};
+ghost use Rattle.folds_theory.specs.Folds.{room, Holds, twice, weightOrder, weightedFor};
 use group::Element;
 use std::num;
 
-// The largest t that there is room for, and a weight for each element.
-const WIDEST: usize = 10;
+// A weight for each element of the codes up to t = 6, 10 and 12: arrays of three lengths, so that a short
+// code does not pay for the longest.
+pub const ROOM6: usize = 64;
 
-pub const ROOM: usize = 1024;
+pub const ROOM10: usize = 1024;
 
-pub type Weights = [u8; ROOM];
+pub const ROOM12: usize = 4096;
+
+pub type Weights6 = [u8; ROOM6];
+
+pub type Weights10 = [u8; ROOM10];
+
+pub type Weights12 = [u8; ROOM12];
 
 // The sum of the elements, each times its weight; zero where there is no room for so many.
-pub fn weighted(a: usize, b: usize, mut v: Weights) -> Element
-    ensures { λ r. ⌜ r ≡ weightedFor a b v ⌝ }
+pub fn weighted6(a: usize, b: usize, mut v: Weights6) -> Element
+    ensures { λ r. ⌜ r ≡ weightedFor 6 a b v ⌝ }
 {
-    if WIDEST < a {
-        return group::zero(a, b);
+    if within(a, b, 6) {
+        both(a, b, &mut v)
+    } else {
+        group::zero(a, b)
     }
-    if (WIDEST - a) / 2 < b {
-        return group::zero(a, b);
+}
+
+pub fn weighted10(a: usize, b: usize, mut v: Weights10) -> Element
+    ensures { λ r. ⌜ r ≡ weightedFor 10 a b v ⌝ }
+{
+    if within(a, b, 10) {
+        both(a, b, &mut v)
+    } else {
+        group::zero(a, b)
     }
-    both(a, b, &mut v)
+}
+
+pub fn weighted12(a: usize, b: usize, mut v: Weights12) -> Element
+    ensures { λ r. ⌜ r ≡ weightedFor 12 a b v ⌝ }
+{
+    if within(a, b, 12) {
+        both(a, b, &mut v)
+    } else {
+        group::zero(a, b)
+    }
+}
+
+// Whether a code with a binary and b quaternary components has a t up to this one.
+fn within(a: usize, b: usize, t: usize) -> bool
+    ensures { λ x. ⌜ x ≡ leb (a + 2 * b) t ⌝ }
+{
+    if t < a {
+        return false;
+    }
+    b <= (t - a) / 2
 }
 
 // The sum over the numbers of sign 0 and over those of sign 1.
 fn both(a: usize, b: usize, v: &mut [u8]) -> Element
-    requires { ⌜ (a + 2 * b ≤ widest) × (length (now v) ≡ room) ⌝ }
+    requires { ⌜ Holds a b (length (now v)) ⌝ }
     ensures { λ r. ⌜ r ≡ weights.weighOn (moduli a b) (weightOrder (moduli a b)) (now (v .entry)) ⌝ }
 {
     let n = power(a + 2 * b);
@@ -116,7 +152,7 @@ fn halve(start: usize, n: usize, v: &mut [u8]) -> u8
 
 // The sum over the numbers of sign 1, each with the two weights of its pair.
 fn pairs(a: usize, b: usize, v: &mut [u8]) -> Element
-    requires { ⌜ (a + 2 * b ≤ widest) × (0 < b) × (length (now v) ≡ room) ⌝ }
+    requires { ⌜ Holds a b (length (now v)) × (0 < b) ⌝ }
     ensures { λ r. ⌜ r ≡ weights.weighOn (moduli a b) (twice (plus (moduli a b))) (now (v .entry)) ⌝ }
 {
     let j = b - 1;
@@ -140,7 +176,7 @@ fn levels(
     v: &mut [u8],
     x: Element,
 ) -> Element
-    requires { ⌜ (a + 2 * b ≤ widest) × (top < b) × (length (now v) ≡ room) × (count ≡ size (level a b top)) × (evens ≡ evenTo a b top) ⌝ }
+    requires { ⌜ Holds a b (length (now v)) × (top < b) × (count ≡ size (level a b top)) × (evens ≡ evenTo a b top) ⌝ }
     ensures { λ r. ⌜ r ≡ weights.weighOn (level a b top) (folds.both a b top) (now (v .entry)) ++ drop (a + top) x ⌝ }
 {
     let mut r = x;

@@ -5,15 +5,17 @@ use Prim.Native.Nat.{ℕ, zero, suc, _+_, _-_, _*_, _/_, _%_, _^_, _<_, _≤_}
 use native.Mathlib.Nat.{pow-succ', pow-le-pow-right}
 use native.Mathlib.Omega.{arith}
 use lib.ListN.{length, take, drop, set, length-set, length-append}
+use lib.Pow.{pow-mono}
 use lib.Seq.{paste, length-paste, take-paste, drop-paste, take-all, drop-cons, drop-set-lt, drop-drop, append-snoc, lt-length-set, getD-set-same}
 use Rattle.group_theory.specs.Group.{Modulus, four, moduli, sum, times, element, size}
 use Rattle.group_theory.specs.Weights.{weighOn, shifted, added, total}
 use Rattle.group_theory.proofs.Fill.{sum-mod}
+use Rattle.group_theory.proofs.Unit.{size-in-use}
 use Rattle.blocks_theory.specs.Blocks as blocks
 use Rattle.blocks_theory.specs.Blocks.{level, evenTo}
 use Rattle.blocks_theory.proofs.Blocks.{next, plus-blocks, low-blocks}
 use Rattle.blocks_theory.proofs.Levels.{below-plus, below-low, level-next, level-none, plus-none, size-next, even-next, level-counts, size-twos}
-use Rattle.folds_theory.specs.Folds.{widest, room, stretch, twice, both, nextPlus, plusTops, nextLow, lowTops, stride, Doubling, Halved}
+use Rattle.folds_theory.specs.Folds.{widest, room, Holds, stretch, twice, both, nextPlus, plusTops, nextLow, lowTops, stride, Doubling, Halved}
 use Rattle.folds_theory.proofs.Twice.{length-twice, below-twice, twice-two, twice-four, low-two}
 use Rattle.folds_theory.proofs.Offs.{four-lengths, level-off, length-plus, length-low}
 use Rattle.folds_theory.proofs.Halving.{last-two, stride-two}
@@ -44,11 +46,16 @@ module _ (a b : ℕ) (few : a + 2 * b ≤ widest) where
       let t : size (level a b (suc j)) ≡ 2 ^ suc (suc (a + 2 * j)) = omega arith in
       t ∙ ap (λ (k : ℕ). 2 ^ k) (sym e)
 
-  pub size-fits : (j : ℕ) → j ≤ b → size (level a b j) ≤ room
-  size-fits j h = rw (size-level j h) (most (a + 2 * j) (omega arith))
-    where
-      most : (k : ℕ) → k ≤ widest → 2 ^ k ≤ room
-      most k h = pow-le-pow-right (omega arith) h
+  -- a level has no more numbers than the whole
+  pub size-fits : (j : ℕ) → j ≤ b → size (level a b j) ≤ size (moduli a b)
+  size-fits j h = rw (sym (size-in-use a b), size-level j h, size-level b (omega arith)) (pow-le-pow-right (omega arith) (omega arith))
+
+  -- an array of 2^t weights has one for each element of the codes up to t
+  size-within : (t : ℕ) → a + 2 * b ≤ t → size (moduli a b) ≤ 2 ^ t
+  size-within t h = rw (sym (size-in-use a b), size-level b (omega arith)) (pow-mono {i = a + 2 * b} {j = t} h)
+
+  pub size-room : size (moduli a b) ≤ room
+  size-room = size-within widest few
 
   -- the code's p and m
   pub blocks-at : (j : ℕ) → j ≤ b → (n e : ℕ) → n ≡ size (level a b j) → e ≡ evenTo a b j
@@ -69,6 +76,12 @@ module _ (a b : ℕ) (few : a + 2 * b ≤ widest) where
       let l = length-twice (blocks.plus (level a b j)) in
       let m = length-twice (blocks.low (level a b j)) in
       length-append (twice (blocks.plus (level a b j))) (twice (blocks.low (level a b j))) ∙ omega arith
+
+pub holds-within : (t a b k : ℕ) → t ≤ widest → a + 2 * b ≤ t → 2 ^ t ≤ k → k ≤ room → Holds a b k
+holds-within t a b k l h e m =
+    let few : a + 2 * b ≤ widest = omega arith in
+    let s = size-within a b few t h in
+    record { few = few; enough = omega arith; most = m }
 
 -- ---- the blocks of one level, each number twice
 module _ (ms : List Modulus) where
@@ -123,20 +136,20 @@ drop-written r i d h =
 
 -- ---- the loop
 pub record Levelling (a b top : ℕ) (v₀ x v r : List ℕ) (n e j : ℕ) : Type 0 where
-  pub few : a + 2 * b ≤ widest
+  pub holds : Holds a b (length v₀)
   pub under : top < b
   pub within : j ≤ top
   pub full : length r ≡ 12
   pub count : n ≡ size (level a b j)
   pub evens : e ≡ evenTo a b j
-  pub long : length v ≡ room
+  pub long : length v ≡ length v₀
   pub left : weighOn (level a b j) (both a b j) v ++ drop (a + j) r ≡ weighOn (level a b top) (both a b top) v₀ ++ drop (a + top) x
 
 pub levelling-start : (a b top : ℕ) (v x : List ℕ) (n e : ℕ)
-    → (a + 2 * b ≤ widest) × (top < b) × (length v ≡ room) × (n ≡ size (level a b top)) × (e ≡ evenTo a b top) → length x ≡ 12
+    → Holds a b (length v) × (top < b) × (n ≡ size (level a b top)) × (e ≡ evenTo a b top) → length x ≡ 12
     → Levelling a b top v x v x n e top
 levelling-start a b top v x n e h l =
-    record { few = h .0; under = h .1; within = omega arith; full = l; count = h .3; evens = h .4; long = h .2; left = refl }
+    record { holds = h .0; under = h .1; within = omega arith; full = l; count = h .2; evens = h .3; long = refl; left = refl }
 
 -- what one level asks
 pub record Round (a b j n e : ℕ) : Type 0 where
@@ -145,13 +158,14 @@ pub record Round (a b j n e : ℕ) : Type 0 where
   pub evens : e / 2 ≡ evenTo a b j
   pub fewer : e / 2 ≤ n / 4
   pub whole : n ≡ 4 * (n / 4)
-  pub fits : 4 * (n / 4 - e / 2) + 4 * (n / 4 + e / 2) ≤ room
-  pub some : n ≤ room
+  pub fits : 4 * (n / 4 - e / 2) + 4 * (n / 4 + e / 2) ≤ size (moduli a b)
+  pub some : n ≤ size (moduli a b)
 
 pub round : (a b top : ℕ) (v₀ x v r : List ℕ) (n e j : ℕ) → Levelling a b top v₀ x v r n e j → 0 < j → Round a b (j - 1) n e
 round a b top v₀ x v r n e zero f h = absurd (omega arith)
 round a b top v₀ x v r n e (suc j) f h =
-    let few = f .few in
+    let few = f .holds .few in
+    let en = f .holds .enough in
     let under = f .under in
     let wi = f .within in
     let co = f .count in
@@ -181,7 +195,8 @@ pub levelling-step : (a b top : ℕ) (v₀ x v r : List ℕ) (n e j : ℕ) → L
     → length w ≡ length v → Levelling a b top v₀ x w (set r (a + (j - 1)) ((c + d) % 4)) (n / 4) (e / 2) (j - 1)
 levelling-step a b top v₀ x v r n e zero f h c d u w g k l = absurd (omega arith)
 levelling-step a b top v₀ x v r n e (suc j) f h c d u w g k l =
-    let few = f .few in
+    let few = f .holds .few in
+    let en = f .holds .enough in
     let under = f .under in
     let wi = f .within in
     let lo = f .long in
@@ -216,7 +231,7 @@ levelling-step a b top v₀ x v r n e (suc j) f h c d u w g k l =
     let lb4 : length (twice (blocks.plus (next ms)) ++ twice (blocks.low (next ms))) ≤ 4 * p + 4 * m = whole-length ms p m (B .0) (B .1) in
     rw z
     (record {
-      few = few;
+      holds = f .holds;
       under = under;
       within = omega arith;
       full = length-set r (a + j) ((c + d) % 4) ∙ fu;
@@ -260,7 +275,8 @@ pub levelling-asks : (a b top : ℕ) (v₀ x v r : List ℕ) (n e j : ℕ) → L
     → (a + b ≤ 12) × (a ≤ a + b) × (0 + 2 * n ≤ length v) × (length v ≤ room)
 levelling-asks a b top v₀ x v r n e (suc j) f h = absurd (omega arith)
 levelling-asks a b top v₀ x v r n e zero f h =
-    let few = f .few in
+    let few = f .holds .few in
+    let en = f .holds .enough in
     let under = f .under in
     let co = f .count in
     let lo = f .long in
@@ -273,7 +289,8 @@ pub levelling-done : (a b top : ℕ) (v₀ x v r : List ℕ) (n e j : ℕ) → L
 unfolding twice
 levelling-done a b top v₀ x v r n e (suc j) f h y g = absurd (omega arith)
 levelling-done a b top v₀ x v r n e zero f h y g =
-    let few = f .few in
+    let few = f .holds .few in
+    let en = f .holds .enough in
     let co = f .count in
     let z : a + 0 ≡ a = omega arith in
     let L : ℕ → List ℕ = λ i. twice (blocks.low (take i (moduli a b))) in

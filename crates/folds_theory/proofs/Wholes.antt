@@ -2,10 +2,11 @@
 use mathlib.Core.Path.{_≡_, refl, sym, ap, ap₂, subst, _∙_}
 use mathlib.Core.Bool.{true, false}
 use mathlib.Core.List.{List, [], _∷_, _++_}
-use Prim.Native.Nat.{ℕ, zero, suc, _+_, _-_, _*_, _%_, _^_, _<_, _≤_}
+use Prim.Native.Nat.{ℕ, zero, suc, _+_, _-_, _*_, _/_, _%_, _^_, _<_, _≤_}
 use native.Mathlib.Decide.{decLt}
 use native.Mathlib.Omega.{arith}
 use borrow.Author.Tests.{le-leb, lt-leb}
+use lib.Dec.{leb}
 use lib.ListN.{length, take, drop, set, length-append, take-append-drop}
 use lib.Seq.{paste, take-add, append-snoc, length-take-le}
 use Rattle.group_theory.specs.Group.{Modulus, four, moduli, zeros, sum, size}
@@ -20,7 +21,7 @@ use Rattle.blocks_theory.proofs.Blocks.{next, even-blocks}
 use Rattle.blocks_theory.proofs.Levels.{below-plus, below-low, below-even, level-next, size-next}
 use Rattle.blocks_theory.proofs.Members.{plus-all, even-all}
 use Rattle.blocks_theory.proofs.Splits.{even-power}
-use Rattle.folds_theory.specs.Folds.{widest, room, stretch, twice, both, weightOrder, weightedFor, firstPlus, firstTops, stride, Doubling, Halved}
+use Rattle.folds_theory.specs.Folds.{widest, stretch, twice, both, weightOrder, weightedFor, firstPlus, firstTops, stride, Doubling, Halved}
 use Rattle.folds_theory.proofs.Twice.{below-twice, even-two}
 use Rattle.folds_theory.proofs.Offs.{four-lengths, first-off, length-first-plus}
 use Rattle.folds_theory.proofs.Halving.{last-two, last-four, stride-two, stride-four}
@@ -46,8 +47,8 @@ pub record First (a b n e : ℕ) : Type 0 where
   pub count : n ≡ size (level a b (b - 1))
   pub evens : e ≡ evenTo a b (b - 1)
   pub fewer : e ≤ n
-  pub fits : 3 * (n - e) + (n + e) ≤ room
-  pub small : n ≤ room
+  pub fits : 3 * (n - e) + (n + e) ≤ size (moduli a b)
+  pub small : n ≤ size (moduli a b)
 
 pub first : (a b n e : ℕ) → a + 2 * b ≤ widest → 0 < b → n ≡ 2 ^ (a + 2 * (b - 1)) → e ≡ 2 ^ (a + (b - 1)) → First a b n e
 first a b n e few some x y =
@@ -60,13 +61,13 @@ first a b n e few some x y =
     let t = twice-fits a b few some in
     record { few = few; some = some; count = co; evens = ev; fewer = b2; fits = omega arith; small = omega arith }
   where
-    twice-fits : (a b : ℕ) → a + 2 * b ≤ widest → 0 < b → size (level a b (b - 1)) * 4 ≤ room
+    twice-fits : (a b : ℕ) → a + 2 * b ≤ widest → 0 < b → size (level a b (b - 1)) * 4 ≤ size (moduli a b)
     twice-fits a b few some =
-        let z : suc (b - 1) ≡ b = omega arith in
-        let q : size (level a b (suc (b - 1))) ≤ room = subst (λ (j : ℕ). size (level a b j) ≤ room) (sym z) (size-fits a b few b (omega arith)) in
-        subst (λ (k : ℕ). k ≤ room) (size-next a b (twelve a b few) (b - 1) (omega arith)) q
+        let q = size-fits a b few (suc (b - 1)) (omega arith) in
+        let n = size-next a b (twelve a b few) (b - 1) (omega arith) in
+        omega arith
 
-pub pairs-done : (a b n e : ℕ) → First a b n e → (v u y : List ℕ) (c d : ℕ) → length v ≡ room
+pub pairs-done : (a b n e : ℕ) → First a b n e → (v u y : List ℕ) (c d : ℕ) → size (moduli a b) ≤ length v
     → (c ≡ total (firstTops (n - e) (n + e) v) % 4) × (u ≡ paste v 0 (firstPlus (n - e) (n + e) v) (n - e)) → d ≡ total (stretch (n - e) (n + e) u) % 4
     → (x : List ℕ) → x ≡ zeros (moduli a b)
     → y ≡ weighOn (level a b (b - 1)) (both a b (b - 1)) u ++ drop (a + (b - 1)) (set x (a + (b - 1)) ((c + d) % 4))
@@ -134,7 +135,7 @@ pub record Shares (a b n e : ℕ) : Type 0 where
   pub evens : length (blocks.even (level a b b)) ≡ e
   pub pairs : length (twice (blocks.plus (moduli a b))) ≡ n - e
   pub fewer : e ≤ n
-  pub fits : n ≤ room
+  pub fits : n ≤ size (moduli a b)
 
 pub shares : (a b n e : ℕ) → a + 2 * b ≤ widest → n ≡ 2 ^ (a + 2 * b) → e ≡ 2 ^ (a + b) → Shares a b n e
 shares a b n e few x y =
@@ -144,7 +145,7 @@ shares a b n e few x y =
     let q = size-fits a b few b (omega arith) in
     record { few = few; evens = sym ev; pairs = ap (λ (t : List ℕ). length (twice t)) (sym (plus-all a b)) ∙ B .0; fewer = B .2; fits = omega arith }
 
-module _ (a b n e : ℕ) (f : Shares a b n e) (v : List ℕ) (l : length v ≡ room) where
+module _ (a b n e : ℕ) (f : Shares a b n e) (v : List ℕ) (l : size (moduli a b) ≤ length v) where
   abbrev ms : List Modulus
   ms = moduli a b
 
@@ -178,7 +179,7 @@ module _ (a b n e : ℕ) (f : Shares a b n e) (v : List ℕ) (l : length v ≡ r
       k ∙ ap₂ (sum ms) (singles-sum x none o g) q ∙ sum-comm ms (weighOn ms (blocks.even ms) (drop (n - e) v)) (weighOn ms X v) ∙ sym order-sum
 
 -- without quaternary components there are none of sign 1
-pub singles-only : (a b n e : ℕ) → Shares a b n e → b ≡ 0 → n ≡ 2 ^ (a + 2 * b) → e ≡ 2 ^ (a + b) → (v x none : List ℕ) → length v ≡ room
+pub singles-only : (a b n e : ℕ) → Shares a b n e → b ≡ 0 → n ≡ 2 ^ (a + 2 * b) → e ≡ 2 ^ (a + b) → (v x none : List ℕ) → size (moduli a b) ≤ length v
     → none ≡ zeros (moduli a b) → Halved a b (a + b) (n - e) e v none x → x ≡ weighOn (moduli a b) (weightOrder (moduli a b)) v
 unfolding weightOrder twice
 singles-only a b n e f z p q v x none l o g =
@@ -195,16 +196,24 @@ singles-only a b n e f z p q v x none l o g =
     nothing [] h = refl
     nothing (y ∷ t) h = absurd (omega arith)
 
--- ---- what `weighted` answers
-pub with-room : (a b : ℕ) (v : List ℕ) → a + 2 * b ≤ widest → weightedFor a b v ≡ weighOn (moduli a b) (weightOrder (moduli a b)) v
-unfolding weightedFor
-with-room a b v h =
-    ap (λ t. elim t as (λ _. List ℕ) [ true ↦ weighOn (moduli a b) (weightOrder (moduli a b)) v | false ↦ zeros (moduli a b) ]) (le-leb (a + 2 * b) widest h)
+-- the test of the room in the code's words
+pub half-leb : (a b t : ℕ) → a ≤ t → leb b ((t - a) / 2) ≡ leb (a + 2 * b) t
+half-leb a b t h = go (decLt ((t - a) / 2) b)
+  where
+    go : Dec ((t - a) / 2 < b) → leb b ((t - a) / 2) ≡ leb (a + 2 * b) t
+    go (yes l) = lt-leb b ((t - a) / 2) l ∙ sym (lt-leb (a + 2 * b) t (omega arith))
+    go (no l) = le-leb b ((t - a) / 2) (omega arith) ∙ sym (le-leb (a + 2 * b) t (omega arith))
 
-pub without-room : (a b : ℕ) (v : List ℕ) → widest < a + 2 * b → weightedFor a b v ≡ zeros (moduli a b)
+-- ---- what is answered, with room and without
+pub with-room : (t a b : ℕ) (v : List ℕ) → a + 2 * b ≤ t → weightedFor t a b v ≡ weighOn (moduli a b) (weightOrder (moduli a b)) v
 unfolding weightedFor
-without-room a b v h =
-    ap (λ t. elim t as (λ _. List ℕ) [ true ↦ weighOn (moduli a b) (weightOrder (moduli a b)) v | false ↦ zeros (moduli a b) ]) (lt-leb (a + 2 * b) widest h)
+with-room t a b v h =
+    ap (λ k. elim k as (λ _. List ℕ) [ true ↦ weighOn (moduli a b) (weightOrder (moduli a b)) v | false ↦ zeros (moduli a b) ]) (le-leb (a + 2 * b) t h)
+
+pub without-room : (t a b : ℕ) (v : List ℕ) → t < a + 2 * b → weightedFor t a b v ≡ zeros (moduli a b)
+unfolding weightedFor
+without-room t a b v h =
+    ap (λ k. elim k as (λ _. List ℕ) [ true ↦ weighOn (moduli a b) (weightOrder (moduli a b)) v | false ↦ zeros (moduli a b) ]) (lt-leb (a + 2 * b) t h)
 
 -- there is a weight for each element
 pub order-fits : (a b : ℕ) → a + 2 * b ≤ widest → length (weightOrder (moduli a b)) ≤ size (moduli a b)
@@ -218,6 +227,3 @@ order-fits a b few =
     let z : size ms ≡ 2 ^ (a + 2 * b) = sym (size-in-use a b) ∙ size-level a b few b (omega arith) in
     let l = length-append (twice (blocks.plus ms)) (blocks.even ms) in
     omega arith
-
-pub size-room : (a b : ℕ) → a + 2 * b ≤ widest → size (moduli a b) ≤ room
-size-room a b few = subst (λ (n : ℕ). n ≤ room) (size-in-use a b) (size-fits a b few b (omega arith))

@@ -11,10 +11,16 @@ use Rattle.blocks_theory.specs.Blocks.{plus, low, even, level}
 
 -- the largest t that there is room for, and the room: 2^t weights
 abbrev pub widest : ℕ
-widest = 10
+widest = 12
 
 abbrev pub room : ℕ
-room = 1024
+room = 4096
+
+-- k weights are one or more for each element, and no more than there is room for
+pub record Holds (a b k : ℕ) : Type 0 where
+  pub few : a + 2 * b ≤ widest
+  pub enough : size (moduli a b) ≤ k
+  pub most : k ≤ room
 
 -- each number twice, one after the other: a pair has two places
 unfoldable pub twice : List ℕ → List ℕ
@@ -25,10 +31,11 @@ twice (x ∷ xs) = x ∷ x ∷ twice xs
 unfoldable pub weightOrder : List Modulus → List ℕ
 weightOrder ms = twice (plus ms) ++ even ms
 
--- what `weighted` answers: the sum of the elements in this order, each times its weight; zero where there is no room for so many
-unfoldable pub weightedFor : ℕ → ℕ → List ℕ → List ℕ
-weightedFor a b v =
-    elim (leb (a + 2 * b) widest) as (λ _. List ℕ) [
+-- what is answered for an array with room for codes up to t: the sum of the elements in this order, each times its weight; zero where there is
+-- no room for so many
+unfoldable pub weightedFor : ℕ → ℕ → ℕ → List ℕ → List ℕ
+weightedFor t a b v =
+    elim (leb (a + 2 * b) t) as (λ _. List ℕ) [
       | true ↦ weighOn (moduli a b) (weightOrder (moduli a b)) v
       | false ↦ zeros (moduli a b)
     ]

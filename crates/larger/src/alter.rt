@@ -2,7 +2,7 @@
 // no caller has to show that it is there.
 
 // Room for the longest word that is tried, three places longer than any code's.
-pub(crate) type Long = [u8; 1026];
+pub(crate) type Long = [u8; 4098];
 
 // The first n bytes; all of them where there are no more.
 pub(crate) fn front(w: &[u8], n: usize) -> &[u8] {
@@ -16,9 +16,9 @@ pub(crate) fn at(w: &[u8], i: usize) -> u8 {
 
 // A word and zeros after it.
 pub(crate) fn longer(word: &[u8]) -> Long {
-    let mut b = [0u8; 1026];
+    let mut b = [0u8; 4098];
     let mut i: usize = 0;
-    while i < 1026 {
+    while i < 4098 {
         b[i] = at(word, i);
         i += 1;
     }
@@ -42,7 +42,7 @@ pub(crate) fn set(word: Long, place: usize, v: u8) -> Long {
     if place == 0 {
         return b;
     }
-    if place <= 1026 {
+    if place <= 4098 {
         b[place - 1] = v;
     }
     b

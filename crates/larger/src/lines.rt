@@ -82,7 +82,7 @@ pub(crate) fn counts(code: Record) {
 // The digit of the four places from index i on, the earlier place the higher bit. The remainders change
 // nothing: they bound the sum without a proof that goes by the test.
 fn hex_digit(w: &[u8], i: usize) -> u8
-    requires { ⌜ i < 1024 ⌝ }
+    requires { ⌜ i < 4096 ⌝ }
 {
     let a = at(w, i);
     let b = at(w, i + 1);
@@ -100,11 +100,11 @@ fn letter(v: u8) -> u8
     if v < 10 { b'0' + v } else { b'a' + (v - 10) }
 }
 
-// A word in hexadecimal. No word has more than the 1,024 places of 256 digits.
+// A word in hexadecimal. No word has more than the 4,096 places of 1,024 digits.
 fn hex(w: &[u8]) {
-    let mut digits = [0u8; 256];
+    let mut digits = [0u8; 1024];
     let mut i: usize = 0;
-    while i < 256 {
+    while i < 1024 {
         if w.len() <= 4 * i {
             break;
         }
@@ -193,7 +193,7 @@ fn write(call: Call, code: Record, first: &[u8], second: &[u8], out: &mut [u8]) 
 
 // With an output of its own, that is not looked at again.
 fn write_away(call: Call, code: Record, first: &[u8], second: &[u8], room: usize) {
-    let mut out = [7u8; 1025];
+    let mut out = [7u8; 4097];
     if room <= out.len() {
         write(call, code, first, second, &mut out[..room]);
     }

@@ -1,7 +1,7 @@
-// Every opening with t from 0 to 11 and r from 0 to 12, and a call for C with each. For each code that is
-// admitted, up to 1,023 places, three rounds of calls on drawn words, and rounds in some of its shortened
-// codes; then every word of the short codes. The file `stdout` beside src/ was written by a second program,
-// which shares no code with the engine: that this program prints the same text is the check.
+// Every opening with t from 0 to 13 and r from 0 to 14, and a call for C with each. For each code that is
+// admitted, up to 4,095 places, rounds of calls on drawn words, and rounds in some of its shortened codes;
+// then every word of the short codes. The file `stdout` beside src/ was written by a second program, which
+// shares no code with the engine: that this program prints the same text is the check.
 mod alter;
 mod digest;
 mod draw;
@@ -17,7 +17,7 @@ ghost use Prim.Native.Nat.{_≤_};
 
 fn main() {
     let mut t: u32 = 0;
-    while t <= 11 {
+    while t <= 13 {
         with_each_r(t);
         t += 1;
     }
@@ -25,10 +25,10 @@ fn main() {
 }
 
 fn with_each_r(t: u32)
-    requires { ⌜ t ≤ 11 ⌝ }
+    requires { ⌜ t ≤ 13 ⌝ }
 {
     let mut r: u32 = 0;
-    while r <= 12 {
+    while r <= 14 {
         open(t, r);
         r += 1;
     }
@@ -36,7 +36,7 @@ fn with_each_r(t: u32)
 
 // The bounds keep the state that the rounds start from within its type.
 fn open(t: u32, r: u32)
-    requires { ⌜ (t ≤ 11) × (r ≤ 12) ⌝ }
+    requires { ⌜ (t ≤ 13) × (r ≤ 14) ⌝ }
 {
     openings::with_each_s(t, r);
     let o = coder::open(t, r, 0);
@@ -52,9 +52,16 @@ fn open(t: u32, r: u32)
     }
 }
 
+// Three rounds of a code and three drawn s; with t = 11 and 12, whose words are long, one of each, so that the
+// whole text can still be read.
 fn rounds(code: Record, start: u32) {
+    let t = code.t;
     let x = buffered(code, start);
+    if 10 < t {
+        shorter::rounds(code, 10, x);
+        return;
+    }
     let y = buffered(code, x);
     let z = buffered(code, y);
-    shorter::rounds(code, z);
+    shorter::rounds(code, 12, z);
 }

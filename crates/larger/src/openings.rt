@@ -1,4 +1,4 @@
-// Every opening with one t and r, admitted or not: a line with the number of s from 0 to 1,025 that are
+// Every opening with one t and r, admitted or not: a line with the number of s from 0 to 4,097 that are
 // allowed, and a digest. In it are what each opening gave, its refusal, s and lengths, and what the layout's
 // call gave for place 1 with a record that has the same t, r and s but was not opened, its refusal and the
 // element.
@@ -29,7 +29,7 @@ fn all(t: u32, r: u32) -> Found {
         digest: 1,
     };
     let mut s: u32 = 0;
-    while s <= 1025 {
+    while s <= 4097 {
         found = with(found, t, r, s);
         s += 1;
     }

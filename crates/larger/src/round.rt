@@ -22,16 +22,16 @@ use coder::Record;
 
 // A round with buffers for the longest words, cut to the lengths of the code.
 pub(crate) fn buffered(code: Record, x: u32) -> u32 {
-    let mut m = [0u8; 1023];
-    let mut w = [0u8; 1023];
-    let mut out = [7u8; 1025];
+    let mut m = [0u8; 4095];
+    let mut w = [0u8; 4095];
+    let mut out = [7u8; 4097];
     let n = coder::word_length(code) as usize;
     let k = coder::message_length(code) as usize;
     // No code is longer; the tests spare a proof of it.
-    if 1023 < n {
+    if 4095 < n {
         return x;
     }
-    if 1023 < k {
+    if 4095 < k {
         return x;
     }
     round(code, x, &mut m[..k], &mut w[..n], &mut out[..n + 2])

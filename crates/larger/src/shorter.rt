@@ -6,14 +6,14 @@ use crate::lines::opening;
 use crate::round::buffered;
 use coder::Record;
 
-// `code` has s = 0.
-pub(crate) fn rounds(code: Record, start: u32) {
+// So many s, of which the first nine are fixed and the others drawn. `code` has s = 0.
+pub(crate) fn rounds(code: Record, count: u32, start: u32) {
     let t = code.t;
     let r = code.r;
     let m = coder::message_length(code);
     let mut x = start;
     let mut i: u32 = 0;
-    while i < 12 {
+    while i < count {
         x = step(x);
         x = with(t, r, chosen(i, part_1(t, r), m, x), x);
         i += 1;
@@ -51,7 +51,7 @@ fn part_1(t: u32, r: u32) -> u32 {
     minus(plus(power(r), t), plus(plus(r, r), 1))
 }
 
-// 2^r for the r that are admitted, none of which is above 10.
+// 2^r for the r that are admitted, none of which is above 12.
 fn power(r: u32) -> u32 {
     1 << (r % 32)
 }

@@ -1,14 +1,15 @@
--- The range of t and r: the inequality, the test for it, the pair that request C-11 adds, document 01's examples, computed by the test, and the
--- smallest r of each t. Assumes nothing.
+-- The range of t and r: the inequality, the test for it, the pair that request C-11 adds, document 01's examples, computed by the test, how far
+-- words and elements reach, and the smallest r of each t. Assumes nothing.
 use mathlib.Core.Path.{_≡_, refl, sym, _∙_}
 use mathlib.Core.Bool.{false, true≢false}
 use mathlib.Core.Logic.{_⊎_, inl, inr, ⊎-elim}
-use Prim.Native.Nat.{ℕ, _+_, _*_}
+use Prim.Native.Nat.{ℕ, _+_, _*_, _^_, _≤_}
 use native.Mathlib.Omega.{arith}
 use native.Mathlib.Decide.{ℕ-discrete}
-use Rattle.layout_theory.specs.Parameters.{Admitted, admits, smallestR}
-use Rattle.layout_theory.specs.Claims.{AdmittedRange, FromTwo, OnePairMore, Defaults, Limits}
-use Rattle.layout_theory.proofs.Parameters.{admits-admitted, admitted-admits}
+use lib.Pow.{pow-mono}
+use Rattle.layout_theory.specs.Parameters.{longest, Admitted, admits, smallestR}
+use Rattle.layout_theory.specs.Claims.{AdmittedRange, FromTwo, OnePairMore, Defaults, Limits, Reaches}
+use Rattle.layout_theory.proofs.Parameters.{admits-admitted, admitted-admits, components}
 
 pub admitted-range : AdmittedRange
 admitted-range t r =
@@ -41,10 +42,21 @@ limits = record {
   in42 = admits-admitted 4 2 refl;
   in105 = admits-admitted 10 5 refl;
   in1010 = admits-admitted 10 10 refl;
+  in116 = admits-admitted 11 6 refl;
+  in126 = admits-admitted 12 6 refl;
+  in1212 = admits-admitted 12 12 refl;
   out11 = not-admitted 1 1 refl;
   out52 = not-admitted 5 2 refl;
-  out116 = not-admitted 11 6 refl;
   out45 = not-admitted 4 5 refl;
+  out115 = not-admitted 11 5 refl;
+  out137 = not-admitted 13 7 refl;
+}
+
+pub reaches : Reaches
+unfolding admits
+reaches = record {
+  most = λ t r h. let q : 2 ^ t ≤ 2 ^ longest = pow-mono {i = t} {j = longest} (h .most) in (omega arith, components t r h);
+  reached = (admits-admitted 12 12 refl, refl, refl);
 }
 
 -- where r is 1, t is 2

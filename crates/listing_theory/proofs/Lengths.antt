@@ -3,22 +3,23 @@
 use mathlib.Core.Path.{_≡_, refl, ap}
 use mathlib.Core.Bool.{Bool, true, false}
 use mathlib.Core.List.{List, _++_, append-nil, append-assoc}
-use Prim.Native.Nat.{ℕ, zero, suc, _+_, _*_, _≤_}
+use Prim.Native.Nat.{ℕ, zero, suc, _+_, _*_, _^_, _≤_, _<_}
+use native.Mathlib.Nat.{mul-suc}
 use native.Mathlib.Numerals.{add-one}
 use native.Mathlib.Omega.{arith}
 use lib.Dec.{eqb}
 use lib.ListN.{length, length-append}
-use Rattle.coder_theory.specs.Calls.{wordLength, messageLength}
+use Rattle.coder_theory.specs.Calls.{wordLength, messageLength, elementAnswer}
 use Rattle.coder_theory.specs.declared.Record.{Record}
 use Rattle.coder_theory.specs.declared.Opened.{Opened}
-use Rattle.coder_theory.proofs.Bounds.{word-length-bound}
+use Rattle.coder_theory.proofs.Bounds.{word-length-bound, element-bound}
 use Rattle.listing_theory.specs.Form.{readLine}
 use Rattle.listing_theory.specs.Puts.{Puts}
 use Rattle.listing_theory.specs.Sheet.{fieldText, refusedLine, headingText, placeLine, placeLines, listingText, answerText, lineText, sheetText}
 use Rattle.listing_theory.specs.Claims.{bufferLength}
 use Rattle.listing_theory.specs.declared.Line.{Line}
 use Rattle.listing_theory.specs.declared.Line.the-variants.{Read, Malformed}
-use Rattle.listing_theory.proofs.Decimals.{decimal-length}
+use Rattle.listing_theory.proofs.Decimals.{decimal-length, decimal-below}
 
 field-length : (x end : ℕ) → length (fieldText x end) ≤ 11
 unfolding fieldText
@@ -34,12 +35,24 @@ line-length : (rec : Record) (p : ℕ) → length (placeLine rec p) ≤ 22
 unfolding placeLine
 line-length rec p = fields-length _ _ _ _
 
-pub lines-length : (rec : Record) (p count : ℕ) → length (placeLines rec p count) ≤ 22 * count
+-- lines of which each has at most m bytes
+lines-within : (m : ℕ) (rec : Record) (p count : ℕ) → ((q : ℕ) → q < p + count → length (placeLine rec q) ≤ m)
+    → length (placeLines rec p count) ≤ m * count
 unfolding placeLines
-lines-length rec p zero = omega arith
-lines-length rec p (suc count) =
-    let i = lines-length rec (p + 1) count in
-    simp length-append (omega (arith, line-length rec p))
+lines-within m rec p zero h = omega arith
+lines-within m rec p (suc count) h =
+    let i = lines-within m rec (p + 1) count (λ q l. h q (omega arith)) in
+    rw mul-suc (simp length-append (omega (arith, h p (omega arith))))
+
+pub lines-length : (rec : Record) (p count : ℕ) → length (placeLines rec p count) ≤ 22 * count
+lines-length rec p count = lines-within 22 rec p count (λ q l. line-length rec q)
+
+-- a place of a code and the number of its element have four digits at most
+place-length : (rec : Record) (p : ℕ) → p < 10 ^ 4 → length (placeLine rec p) ≤ 10
+unfolding placeLine fieldText
+place-length rec p h =
+    let e = element-bound rec p in
+    simp length-append (omega (arith, decimal-below 3 p h, decimal-below 3 (elementAnswer rec p .element) (omega arith)))
 
 last-line : (rec : Record) (p k : ℕ) → placeLines rec p (suc k) ≡ placeLines rec p k ++ placeLine rec (p + k)
 unfolding placeLines
@@ -65,7 +78,9 @@ puts-heading rec p = omega (arith, p .next, heading-length rec)
 listing-length : (rec : Record) → length (listingText rec) ≤ bufferLength
 unfolding listingText
 listing-length rec =
-    simp length-append (omega (arith, heading-length rec, lines-length rec 1 (wordLength rec), word-length-bound rec))
+    let n = word-length-bound rec in
+    let l = lines-within 10 rec 1 (wordLength rec) (λ q k. place-length rec q (omega arith)) in
+    simp length-append (omega (arith, heading-length rec))
 
 refused-length : (n : ℕ) → length (refusedLine n) ≤ bufferLength
 unfolding refusedLine

@@ -5,7 +5,7 @@ use Prim.Native.Nat.{ℕ, zero, suc, _+_, _-_, _^_, _<_, _≤_}
 use native.Mathlib.Numerals.{add-one}
 use native.Mathlib.Omega.{arith}
 use borrow.Author.Tests.{eq-eqb, le-leb}
-use lib.ListN.{length, take, drop, getD, set, length-set, length-append, length-drop}
+use lib.ListN.{length, take, drop, getD, set, length-set, length-append, length-drop, length-replicate}
 use lib.Pow.{pow-mono}
 use lib.Seq.{take-at, drop-append-le, take-suc, take-suc-set, take-length}
 use Rattle.group_theory.specs.Group.{Modulus, negative}
@@ -29,37 +29,41 @@ use Rattle.words_theory.proofs.Theorem.{length-message-code}
 use Rattle.shortened_theory.specs.Code.{fill, shortenedSyndrome, shortenedEncode, shortenedCombine, shortenedInverse}
 use Rattle.shortened_theory.specs.Calls.{Fits}
 use Rattle.shortened_theory.proofs.Filling.{length-fill}
+use Rattle.loops_theory.specs.Writing.{Blank}
 use Rattle.loops_theory.proofs.PlaceSums.{length-combine}
 
--- ---- there is room for the filled word
+-- ---- no word of a code is longer than there is room for
 pub places-room : (t r : ℕ) → Admitted t r → placesOf t ≤ room
 places-room t r ok = let q : 2 ^ t ≤ 2 ^ longest = pow-mono {i = t} {j = longest} (ok .most) in omega arith
 
-pub word-room : (t r s k : ℕ) → Fits t r s (placesOf t) k → s + k ≤ room
-word-room t r s k f = let q = places-room t r (f .admitted) in let a = f .all in omega arith
-
-pub message-room : (t r s k : ℕ) → Fits t r s (messageOf t) k → s + k ≤ room
-message-room t r s k f = let q = places-room t r (f .admitted) in let a = f .all in omega arith
-
--- ---- a loop that copies i bytes of w to the places from index s on
-pub record Copied (s : ℕ) (w v : List ℕ) (i : ℕ) : Type 0 where
-  pub within : i ≤ length w
-  pub wide : length v ≡ room
-  pub bytes : take (s + i) v ≡ fill s (take i w)
-
-pub take-zeros : (s n : ℕ) → s ≤ n → take s (zeroWord n) ≡ zeroWord s
+-- ---- arrays of zeros
+take-zeros : (s n : ℕ) → s ≤ n → take s (zeroWord n) ≡ zeroWord s
 take-zeros zero n h = refl
 take-zeros (suc s) zero h = absurd (omega arith)
 take-zeros (suc s) (suc n) h = ap {B = List ℕ} (λ (t : List ℕ). 0 ∷ t) (take-zeros s n (omega arith))
 
-pub copy-start : (s : ℕ) (w v : List ℕ) → length v ≡ room → take s v ≡ zeroWord s → Copied s w v 0
-copy-start s w v l e =
-    let z : s + 0 ≡ s = omega arith in
-    record { within = omega arith; wide = l; bytes = ap (λ (k : ℕ). take k v) z ∙ e ∙ sym (append-nil (zeroWord s)) }
+pub blank : (n k : ℕ) → n ≤ k → Blank n (zeroWord k)
+blank n k h = let l = length-replicate {A = ℕ} k 0 in record { space = omega arith; zeros = ap zeroWord (sym l) }
 
-pub copy-step : (s : ℕ) (w v : List ℕ) (i b : ℕ) → Copied s w v i → i < length w → s + length w ≤ room → b ≡ getD w i 0
-    → Copied s w (set v (s + i) b) (i + 1)
-copy-step s w v i b c h l e =
+pub fewer-blank : {n k : ℕ} {v : List ℕ} → Blank n v → k ≤ n → Blank k v
+fewer-blank b h = let s = b .space in record { space = omega arith; zeros = b .zeros }
+
+-- ---- a loop that copies i bytes of w to the places from index s on, in an array that was v₀
+pub record Copied (s : ℕ) (w v₀ v : List ℕ) (i : ℕ) : Type 0 where
+  pub within : i ≤ length w
+  pub wide : length v ≡ length v₀
+  pub bytes : take (s + i) v ≡ fill s (take i w)
+
+pub copy-start : (s : ℕ) (w v : List ℕ) → Blank (s + length w) v → Copied s w v v 0
+copy-start s w v b =
+    let z : s + 0 ≡ s = omega arith in
+    let k = b .space in
+    let e : take s v ≡ zeroWord s = ap (take s) (b .zeros) ∙ take-zeros s (length v) (omega arith) in
+    record { within = omega arith; wide = refl; bytes = ap (λ (k : ℕ). take k v) z ∙ e ∙ sym (append-nil (zeroWord s)) }
+
+pub copy-step : (s : ℕ) (w v₀ v : List ℕ) (i b : ℕ) → Copied s w v₀ v i → i < length w → s + length w ≤ length v₀ → b ≡ getD w i 0
+    → Copied s w v₀ (set v (s + i) b) (i + 1)
+copy-step s w v₀ v i b c h l e =
     let n = c .wide in
     let z : s + (i + 1) ≡ suc (s + i) = omega arith in
     record {
@@ -73,8 +77,8 @@ copy-step s w v i b c h l e =
           (ap (λ (k : ℕ). take i w ++ (k ∷ [])) e ∙ sym (take-suc w i 0 h) ∙ ap (λ (k : ℕ). take k w) (sym (add-one i)));
     }
 
-pub copy-end : (s : ℕ) (w v : List ℕ) (i : ℕ) → Copied s w v i → length w ≤ i → take (s + length w) v ≡ fill s w
-copy-end s w v i c h =
+pub copy-end : (s : ℕ) (w v₀ v : List ℕ) (i : ℕ) → Copied s w v₀ v i → length w ≤ i → take (s + length w) v ≡ fill s w
+copy-end s w v₀ v i c h =
     let k = c .within in
     let e : length w ≡ i = omega arith in
     ap (λ (n : ℕ). take (s + n) v) e ∙ c .bytes ∙ ap (fill s) (ap (λ (n : ℕ). take n w) (sym e) ∙ take-length w)
@@ -110,11 +114,8 @@ length-encode ms m l =
     ∙ sym (length-append (places ms (message ms)) (places ms (units ms)))
     ∙ ap length (sym (places-append ms (message ms) (units ms)))
 
-module _ (t r s n : ℕ) (ok : Admitted t r) (is : n ≡ placesOf t) (few : s ≤ placesOf t) (z code out new : List ℕ) (wide : length z ≡ room)
+module _ (t r s n : ℕ) (ok : Admitted t r) (is : n ≡ placesOf t) (few : s ≤ placesOf t) (z code out new : List ℕ) (enough : placesOf t ≤ length z)
     (h : placesOf t - s ≤ length out) (given : new ≡ calls.flipFor (take (n - s) (drop s code)) 0 out) where
-  enough : placesOf t ≤ length z
-  enough = let q = places-room t r ok in omega arith
-
   handed-on : (x : List ℕ) → length x ≡ placesOf t → code ≡ x ++ drop (placesOf t) z → new ≡ drop s x ++ drop (placesOf t - s) out
   handed-on x l e =
       given

@@ -17,9 +17,8 @@ use Rattle.blocks_theory.specs.Blocks as blocks
 use Rattle.blocks_theory.specs.Blocks.{level, plusTo, evenTo}
 use Rattle.blocks_theory.proofs.Levels.{plus-next, even-next, even-first, level-counts, plus-none}
 use Rattle.blocks_theory.proofs.Splits.{pair-counts, plus-rises, pow-pos, pow-rises, even-power, message-counts}
-use Rattle.folds_theory.specs.Folds.{widest, room}
+use Rattle.folds_theory.specs.Folds.{room, Holds}
 use Rattle.folds_theory.proofs.Levelling.{twelve}
-use Rattle.folds_theory.proofs.Wholes.{size-room}
 use Rattle.words_theory.specs.Digits.{digit}
 use Rattle.words_theory.proofs.Combining.{digit-lt}
 use Rattle.loops_theory.specs.Spread.{widthOf, spread, row, HoldsMessage}
@@ -189,12 +188,13 @@ pub single-done : (v x u w : List ℕ) (k n at : ℕ) → k < length v → x ≡
 single-done v x u w k n at h e f = single-written v u w k n at h (f ∙ ap (λ (q : List ℕ). take (k + 1) q ++ row false n (drop at w)) e)
 
 -- ---- the loop of `pairs`
-pub record Pairing (a b part : ℕ) (w v : List ℕ) (p e at j : ℕ) : Type 0 where
+pub record Pairing (a b part : ℕ) (w v₀ v : List ℕ) (p e at j : ℕ) : Type 0 where
   pub within : j ≤ b
   pub plusses : p ≡ plusTo a b j
   pub evens : e ≡ evenTo a b j
   pub place : at + 2 * j ≡ part + 2 * p
-  pub wide : length v ≡ room
+  pub holds : Holds a b (length v₀)
+  pub wide : length v ≡ length v₀
   pub front : take (2 * p) v ≡ spread true (moduli a b) (blocks.plus (level a b j)) (drop part w)
 
 -- ---- the loop of `singles`
@@ -202,7 +202,8 @@ pub record Singling (a b start : ℕ) (w v₀ v : List ℕ) (n at i : ℕ) : Typ
   pub within : i ≤ a
   pub power : n ≡ 2 ^ i
   pub place : at + i + 1 ≡ n
-  pub wide : length v ≡ room
+  pub holds : Holds a b (length v₀)
+  pub wide : length v ≡ length v₀
   pub front : take (start + n) v ≡ take start v₀ ++ spread false (moduli a b) (from 0 (2 ^ i)) w
 
 -- what its next segment asks of the bytes and of the weights, and what the bytes after the last segment ask
@@ -217,26 +218,24 @@ module _ (a b count part : ℕ) (w : List ℕ) (L : HoldsMessage a b count part 
   components = twelve a b (L .few)
 
   -- how many numbers there are
-  pub shares : (count ≡ 2 * plusTo a b b + evenTo a b b) × (part + a + 1 ≡ evenTo a b b) × (length (pairs (moduli a b)) + b ≡ plusTo a b b) × (count ≤ room)
+  pub shares : (count ≡ 2 * plusTo a b b + evenTo a b b) × (part + a + 1 ≡ evenTo a b b) × (length (pairs (moduli a b)) + b ≡ plusTo a b b) × (count ≤ size (moduli a b))
   shares =
       let t = message-counts a b components in
       let t0 = t .0 in
       let t2 = t .2 in
       let al = L .all in
       let fr = L .front in
-      (omega arith, omega arith, t .1, fits (L .few) al)
-    where
-      fits : a + 2 * b ≤ widest → count ≡ size (moduli a b) → count ≤ room
-      fits h e = rw e (size-room a b h)
+      (omega arith, omega arith, t .1, omega arith)
 
-  pub pairing-start : (v : List ℕ) (e : ℕ) → e ≡ 2 ^ a → length v ≡ room → Pairing a b part w v 0 e part 0
+  pub pairing-start : (v : List ℕ) (e : ℕ) → e ≡ 2 ^ a → Holds a b (length v) → Pairing a b part w v v 0 e part 0
   pairing-start v e h l =
       record {
         within = omega arith;
         plusses = sym (ap length (plus-none a b));
         evens = h ∙ sym (even-first a b components);
         place = omega arith;
-        wide = l;
+        holds = l;
+        wide = refl;
         front = sym (spread-none a b components (drop part w));
       }
 
@@ -245,11 +244,11 @@ module _ (a b count part : ℕ) (w : List ℕ) (L : HoldsMessage a b count part 
     pub next : 4 * p + e ≡ plusTo a b (suc j)
     pub some : 0 < 3 * p + e
     pub bytes : at + 2 * (3 * p + e - 1) ≤ length w
-    pub fits : 2 * p + (2 + 2 * (3 * p + e - 1)) ≤ room
-    pub few : e ≤ room
+    pub fits : 2 * p + (2 + 2 * (3 * p + e - 1)) ≤ size (moduli a b)
+    pub few : e ≤ size (moduli a b)
 
-  pub pairing-asks : (v : List ℕ) (p e at j : ℕ) → Pairing a b part w v p e at j → j < b → Segment p e at j
-  pairing-asks v p e at j f h =
+  pub pairing-asks : (v₀ v : List ℕ) (p e at j : ℕ) → Pairing a b part w v₀ v p e at j → j < b → Segment p e at j
+  pairing-asks v₀ v p e at j f h =
       let c = components in
       let x = f .plusses in
       let y = f .evens in
@@ -272,29 +271,29 @@ module _ (a b count part : ℕ) (w : List ℕ) (L : HoldsMessage a b count part 
         next = q;
         some = o;
         bytes = reach p e at j (plusTo a b (suc j)) (b - suc j) (plusTo a b b) (length (singles (moduli a b))) (length (pairs (moduli a b))) q z r s2 fr en k o;
-        fits = fit p e (plusTo a b (suc j)) (b - suc j) (plusTo a b b) (evenTo a b b) q r s0 s3 o;
-        few = small p e (plusTo a b (suc j)) (b - suc j) (plusTo a b b) (evenTo a b b) q r s0 s3;
+        fits = fit p e (plusTo a b (suc j)) (b - suc j) (plusTo a b b) (evenTo a b b) (size (moduli a b)) q r s0 s3 o;
+        few = small p e (plusTo a b (suc j)) (b - suc j) (plusTo a b b) (evenTo a b b) (size (moduli a b)) q r s0 s3;
       }
     where
       more : (p e x y n : ℕ) → 4 * p + e ≡ y → p ≡ x → y ≡ x + suc n → 0 < 3 * p + e
       more p e x y n q f u = omega arith
 
-      fit : (p e y k z f : ℕ) → 4 * p + e ≡ y → y + k ≤ z → count ≡ 2 * z + f → count ≤ room → 0 < 3 * p + e → 2 * p + (2 + 2 * (3 * p + e - 1)) ≤ room
-      fit p e y k z f q r t h o = omega arith
+      fit : (p e y k z f n : ℕ) → 4 * p + e ≡ y → y + k ≤ z → count ≡ 2 * z + f → count ≤ n → 0 < 3 * p + e → 2 * p + (2 + 2 * (3 * p + e - 1)) ≤ n
+      fit p e y k z f n q r t h o = omega arith
 
-      small : (p e y k z f : ℕ) → 4 * p + e ≡ y → y + k ≤ z → count ≡ 2 * z + f → count ≤ room → e ≤ room
-      small p e y k z f q r t h = omega arith
+      small : (p e y k z f n : ℕ) → 4 * p + e ≡ y → y + k ≤ z → count ≡ 2 * z + f → count ≤ n → e ≤ n
+      small p e y k z f n q r t h = omega arith
 
       reach : (p e at j y k z s t : ℕ) → 4 * p + e ≡ y → at + 2 * j ≡ part + 2 * p → y + k ≤ z → t + b ≡ z → part ≡ s → s + 2 * t ≤ length w → suc j + k ≡ b → 0 < 3 * p + e
           → at + 2 * (3 * p + e - 1) ≤ length w
       reach p e at j y k z s t q f r u g h l o = omega arith
 
-  pub pairing-step : (v : List ℕ) (p e at j : ℕ) → Pairing a b part w v p e at j → j < b → (v′ : List ℕ) → length v′ ≡ length v
+  pub pairing-step : (v₀ v : List ℕ) (p e at j : ℕ) → Pairing a b part w v₀ v p e at j → j < b → (v′ : List ℕ) → length v′ ≡ length v
       → take (2 * p + (2 + 2 * (3 * p + e - 1))) v′ ≡ take (2 * p) v ++ 0 ∷ 0 ∷ row true (3 * p + e - 1) (drop at w)
-      → Pairing a b part w v′ (4 * p + e) (2 * e) (at + 2 * (3 * p + e - 1)) (j + 1)
-  pairing-step v p e at j f h v′ l g =
+      → Pairing a b part w v₀ v′ (4 * p + e) (2 * e) (at + 2 * (3 * p + e - 1)) (j + 1)
+  pairing-step v₀ v p e at j f h v′ l g =
       let c = components in
-      let s = pairing-asks v p e at j f h in
+      let s = pairing-asks v₀ v p e at j f h in
       let x = f .plusses in
       let y = f .evens in
       let z = f .place in
@@ -317,6 +316,7 @@ module _ (a b count part : ℕ) (w : List ℕ) (L : HoldsMessage a b count part 
         plusses = q;
         evens = omega arith;
         place = omega arith;
+        holds = f .holds;
         wide = l ∙ f .wide;
         front = ap (λ (t : ℕ). take t v′) (sym k) ∙ g
             ∙ ap₂ (λ (r t : List ℕ). r ++ 0 ∷ 0 ∷ row true n t) (f .front) (sym d)
@@ -326,9 +326,9 @@ module _ (a b count part : ℕ) (w : List ℕ) (L : HoldsMessage a b count part 
       zero-plus : (j : ℕ) → 0 + j ≡ j
       zero-plus j = omega arith
 
-  pub pairing-done : (v : List ℕ) (p e at j : ℕ) → Pairing a b part w v p e at j → b ≤ j
+  pub pairing-done : (v₀ v : List ℕ) (p e at j : ℕ) → Pairing a b part w v₀ v p e at j → b ≤ j
       → take (2 * plusTo a b b) v ≡ spread true (moduli a b) (blocks.plus (level a b b)) (drop part w)
-  pairing-done v p e at j f h =
+  pairing-done v₀ v p e at j f h =
       let i = f .within in
       let z : j ≡ b = omega arith in
       ap (λ (t : ℕ). take (2 * t) v) (sym (f .plusses ∙ ap (plusTo a b) z)) ∙ f .front
@@ -339,10 +339,10 @@ module _ (a b count part : ℕ) (w : List ℕ) (L : HoldsMessage a b count part 
     pub evens : e ≡ evenTo a b b
     pub pairs : start ≡ 2 * plusTo a b b
     pub whole : start + e ≡ count
-    pub fits : count ≤ room
+    pub fits : count ≤ size (moduli a b)
     pub some : 2 ^ a ≤ e
     pub bytes : e ≤ length w + a + 1
-    pub space : start < room
+    pub space : start < size (moduli a b)
 
   pub room-for : (e start : ℕ) → e ≡ part + a + 1 → start ≡ count - e → SinglesRoom e start
   room-for e start x y =
@@ -353,19 +353,21 @@ module _ (a b count part : ℕ) (w : List ℕ) (L : HoldsMessage a b count part 
       let fr = L .front in
       let p = even-power a b components b (omega arith) in
       let r = pow-rises a b components a b in
-      record { evens = omega arith; pairs = omega arith; whole = omega arith; fits = s .3; some = omega arith; bytes = omega arith; space = space s0 s1 (s .3) x y }
+      record { evens = omega arith; pairs = omega arith; whole = omega arith; fits = s .3; some = omega arith; bytes = omega arith; space = space (size (moduli a b)) s0 s1 (s .3) x y }
     where
-      space : count ≡ 2 * plusTo a b b + evenTo a b b → part + a + 1 ≡ evenTo a b b → count ≤ room → e ≡ part + a + 1 → start ≡ count - e → start < room
-      space h k l m n = omega arith
+      space : (k : ℕ) → count ≡ 2 * plusTo a b b + evenTo a b b → part + a + 1 ≡ evenTo a b b → count ≤ k → e ≡ part + a + 1 → start ≡ count - e → start < k
+      space k h i l m n = omega arith
 
-  pub singling-start : (start : ℕ) (v u : List ℕ) → length v ≡ room → start < room → u ≡ set v start 0 → Singling a b start w u u 1 0 0
+  pub singling-start : (start : ℕ) (v u : List ℕ) → Holds a b (length v) → start < size (moduli a b) → u ≡ set v start 0 → Singling a b start w u u 1 0 0
   singling-start start v u l h e =
-      let k : length u ≡ room = ap length e ∙ length-set v start 0 ∙ l in
+      let k : length u ≡ length v = ap length e ∙ length-set v start 0 in
+      let en = l .enough in
       record {
         within = omega arith;
         power = refl;
         place = refl;
-        wide = k;
+        holds = rw k l;
+        wide = refl;
         front = ap (λ (i : ℕ). take i u) (add-one start) ∙ take-suc u start 0 (omega arith)
             ∙ ap (λ (x : ℕ). take start u ++ (x ∷ [])) (ap (λ (q : List ℕ). getD q start 0) e ∙ getD-set-same v start 0 0 (omega arith))
             ∙ ap (λ (r : List ℕ). take start u ++ r) (sym (spread-zero a b components w));
@@ -377,6 +379,8 @@ module _ (a b count part : ℕ) (w : List ℕ) (L : HoldsMessage a b count part 
       let x = f .power in
       let y = f .place in
       let wd = f .wide in
+      let hl = f .holds in
+      let en = hl .enough in
       let p2 = pow-succ' 2 i in
       let k : suc i + (a - suc i) ≡ a = omega arith in
       let r : 2 ^ suc i + (a - suc i) ≤ 2 ^ a = subst (λ (t : ℕ). 2 ^ suc i + (a - suc i) ≤ 2 ^ t) k (pow-rises a b components (suc i) (a - suc i)) in
@@ -385,11 +389,11 @@ module _ (a b count part : ℕ) (w : List ℕ) (L : HoldsMessage a b count part 
       let rf = R .fits in
       let rs = R .some in
       let rb = R .bytes in
-      go n at i (2 ^ suc i) (a - suc i) (2 ^ a) (omega arith) y k r ro rf rs rb (omega arith) wd
+      go n at i (2 ^ suc i) (a - suc i) (2 ^ a) (omega arith) y k r ro (omega arith) rs rb (omega arith) (rw wd (hl .most))
     where
-      go : (n at i q k z : ℕ) → q ≡ 2 * n → at + i + 1 ≡ n → suc i + k ≡ a → q + k ≤ z → start + e ≡ count → count ≤ room → z ≤ e → e ≤ length w + a + 1 → 0 < n → length v ≡ room
+      go : (n at i q k z : ℕ) → q ≡ 2 * n → at + i + 1 ≡ n → suc i + k ≡ a → q + k ≤ z → start + e ≡ count → count ≤ length v → z ≤ e → e ≤ length w + a + 1 → 0 < n → length v ≤ room
           → SegmentAsks w v start n at
-      go n at i q k z x y l r ro rf rs rb p wd = (p, omega arith, omega arith, omega arith, omega arith)
+      go n at i q k z x y l r ro rf rs rb p wd = (p, omega arith, omega arith, wd, omega arith)
 
   pub singling-step : (e start : ℕ) → SinglesRoom e start → (v₀ v : List ℕ) (n at i : ℕ) → Singling a b start w v₀ v n at i → i < a → (v′ : List ℕ) → length v′ ≡ length v
       → take (start + n + (1 + (n - 1))) v′ ≡ take (start + n) v ++ 0 ∷ row false (n - 1) (drop at w)
@@ -407,6 +411,7 @@ module _ (a b count part : ℕ) (w : List ℕ) (L : HoldsMessage a b count part 
         within = omega arith;
         power = omega arith;
         place = omega arith;
+        holds = f .holds;
         wide = l ∙ f .wide;
         front = ap (λ (t : ℕ). take t v′) (sym k) ∙ g
             ∙ ap₂ (λ (r : List ℕ) (t : ℕ). r ++ 0 ∷ row false t (drop at w)) (f .front) d
@@ -428,6 +433,8 @@ module _ (a b count part : ℕ) (w : List ℕ) (L : HoldsMessage a b count part 
       let rf = R .fits in
       let rs = R .some in
       let rb = R .bytes in
+      let en = f .holds .enough in
+      let mo = f .holds .most in
       (omega arith, omega arith, omega arith, omega arith)
 
   pub singling-done : (e start : ℕ) → SinglesRoom e start → (o v₀ v : List ℕ) (n at i : ℕ) → v₀ ≡ set o start 0 → Singling a b start w v₀ v n at i → a ≤ i → (v′ : List ℕ)

@@ -30,11 +30,11 @@ use Rattle.loops_theory.specs.Spread.{spread, row}
 use Rattle.loops_theory.proofs.Spreads.{free, spread-yes, spread-append, spread-row, on-spread, length-spread}
 
 -- ---- the weights make the message's sum
-pub weights-sum : (a b part count : ℕ) (v w : List ℕ) → a + 2 * b ≤ widest → part ≡ length (singles (moduli a b)) → count ≡ size (moduli a b)
+pub weights-sum : (t a b part count : ℕ) (v w : List ℕ) → a + 2 * b ≤ t → a + 2 * b ≤ widest → part ≡ length (singles (moduli a b)) → count ≡ size (moduli a b)
     → take count v ≡ spread true (moduli a b) (blocks.plus (level a b b)) (drop part w) ++ spread false (moduli a b) (blocks.even (level a b b)) w
-    → weightedFor a b v ≡ syndromeOver (moduli a b) (message (moduli a b)) w
+    → weightedFor t a b v ≡ syndromeOver (moduli a b) (message (moduli a b)) w
 unfolding message weightOrder
-weights-sum a b part count v w few h z e =
+weights-sum t a b part count v w within few h z e =
     let ms = moduli a b in
     let n : length (places ms (map single (singles ms))) ≡ length (singles ms) = ap length (places-singles ms (singles ms)) in
     let x : weighOn ms (twice (blocks.plus ms)) (spread true ms (blocks.plus ms) (drop part w)) ≡ syndromeOver ms (map pair (pairs ms)) (drop part w) =
@@ -43,7 +43,7 @@ weights-sum a b part count v w few h z e =
     on-spread false ms (blocks.even ms) w ∙ ap (λ (xs : List (List ℕ)). syndromeOver ms (map single xs) w) (singles-members ms) in
     let g : take count v ≡ spread true ms (blocks.plus ms) (drop part w) ++ spread false ms (blocks.even ms) w =
     e ∙ ap₂ (λ (xs ys : List ℕ). spread true ms xs (drop part w) ++ spread false ms ys w) (plus-all a b) (even-all a b) in
-    with-room a b v few
+    with-room t a b v within
     ∙ sym (on-take ms (weightOrder ms) v count (rw z (order-fits a b few)))
     ∙ ap (weighOn ms (twice (blocks.plus ms) ++ blocks.even ms)) g
     ∙ on-append ms (twice (blocks.plus ms)) (blocks.even ms) (spread true ms (blocks.plus ms) (drop part w)) (spread false ms (blocks.even ms) w)

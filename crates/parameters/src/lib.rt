@@ -12,7 +12,7 @@ ghost use Rattle.shortened_theory.specs.Calls.{allowedFor};
 pub use layout_theory::Shape;
 
 // The largest t in use.
-const LONGEST: u32 = 10;
+const LONGEST: u32 = 12;
 
 // Whether t and r are admitted.
 pub fn admitted(t: u32, r: u32) -> bool

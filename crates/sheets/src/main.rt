@@ -1,4 +1,5 @@
-// Sheets for lines good and bad, one after the other: document 01's form of the input, executed.
+// Sheets for lines good and bad, one after the other: document 01's form of the input, executed. Of the longest
+// sheets only the front and the length are printed; `make check-sheet` compares all of them.
 fn show(line: &[u8]) {
     let mut text = io::large_buffer();
     let n = listing::sheet(line, &mut text);
@@ -6,9 +7,9 @@ fn show(line: &[u8]) {
 }
 
 // A buffer too short for the text gets as much of it as fits, and the length is told all the same.
-fn short() {
-    let mut text = [46u8; 16];
-    let n = listing::sheet(b"3 2\n", &mut text);
+fn short(line: &[u8]) {
+    let mut text = [46u8; 32];
+    let n = listing::sheet(line, &mut text);
     io::write_all(1, &text);
     io::write_all(1, b"..\n");
     io::print_decimal(1, n as u64);
@@ -37,9 +38,10 @@ fn not_admitted() {
     show(b"0 0\n");
     show(b"1 1\n");
     show(b"5 2\n");
-    show(b"11 6\n");
     show(b"4 5\n");
-    show(b"11 0\n");
+    show(b"11 5\n");
+    show(b"13 7\n");
+    show(b"13 0\n");
     show(b"9999 9999\n");
 }
 
@@ -68,6 +70,10 @@ fn main() {
     good();
     not_admitted();
     malformed();
-    short();
+    short(b"3 2\n");
+    short(b"11 6\n");
+    short(b"12 6\n");
+    short(b"12 12\n");
+    short(b"12 0\n");
     long();
 }

@@ -2,8 +2,10 @@
 // left out. Every input is answered; nothing is done where t and r are not admitted, s is not allowed,
 // a word or a message is not of its length, or an output is too short (crate shortened_theory,
 // specs/Calls.antt). With s = 0 the work is done on the caller's own bytes, by the crates that know
-// nothing of s; else by the same on the word filled with s zeros (fill.rt).
+// nothing of s; else by the same on the word filled with s zeros (fill.rt), in arrays as long as the code
+// needs (rooms.rt).
 mod fill;
+mod rooms;
 
 ghost use mathlib.Core.Path.{_≡_};
 ghost use mathlib.Core.Bool.{true};
@@ -59,7 +61,7 @@ pub fn syndrome(t: u32, r: u32, s: u32, word: &[u8]) -> Element
         if s == 0 {
             return coding::syndrome(t, r, word);
         }
-        return fill::syndrome(t, r, s, word);
+        return rooms::syndrome(t, r, s, word);
     }
     group::zero(0, 0)
 }
@@ -73,7 +75,7 @@ pub fn fault(t: u32, r: u32, s: u32, word: &[u8]) -> u32
         if s == 0 {
             return places::fault(t, r, word);
         }
-        return fill::fault(t, r, s, word);
+        return rooms::fault(t, r, s, word);
     }
     0
 }
@@ -88,7 +90,7 @@ pub fn encode(t: u32, r: u32, s: u32, message: &[u8], out: &mut [u8])
                 coding::encode(t, r, message, out);
                 return;
             }
-            fill::encode(t, r, s, message, out);
+            rooms::encode(t, r, s, message, out);
             return;
         }
     }
@@ -105,7 +107,7 @@ pub fn combine(t: u32, r: u32, s: u32, first: &[u8], second: &[u8], out: &mut [u
                     combining::combine(t, r, first, second, out);
                     return;
                 }
-                fill::combine(t, r, s, first, second, out);
+                rooms::combine(t, r, s, first, second, out);
                 return;
             }
         }
@@ -122,7 +124,7 @@ pub fn invert(t: u32, r: u32, s: u32, word: &[u8], out: &mut [u8])
                 places::invert(t, r, word, out);
                 return;
             }
-            fill::invert(t, r, s, word, out);
+            rooms::invert(t, r, s, word, out);
             return;
         }
     }

@@ -6,7 +6,7 @@ use Rattle.folds.proofs.both.Tie as tie
 
 -- what is known once n and e are there
 known : (c : tie.After-power2) → Shares (c .before .before .before .args .a) (c .before .before .before .args .b) (c .before .power .result) (c .power2 .result)
-known c = shares _ _ _ _ (c .before .before .before .pre .0) (c .before .power .ensures) (c .power2 .ensures)
+known c = shares _ _ _ _ (c .before .before .before .pre .few) (c .before .power .ensures) (c .power2 .ensures)
 
 mul-power : tie.Need-mul-power
 mul-power c = search needs

@@ -6,7 +6,7 @@ use Rattle.folds.proofs.pairs.Tie as tie
 
 -- what is known once n and e are there
 known : (c : tie.After-power2) → First (c .before .before .before .args .a) (c .before .before .before .args .b) (c .before .power .result) (c .power2 .result)
-known c = let h = c .before .before .before .pre in first _ _ _ _ (h .0) (h .1) (c .before .power .ensures) (c .power2 .ensures)
+known c = let h = c .before .before .before .pre in first _ _ _ _ (h .0 .few) (h .1) (c .before .power .ensures) (c .power2 .ensures)
 
 sub-j : tie.Need-sub-j
 sub-j c = search needs
@@ -57,7 +57,7 @@ array-write-r : tie.Need-array-write-r
 array-write-r c = search needs
 
 levels-requires : tie.Need-levels-requires
-levels-requires c κs = let F = known (c .before .before .before .before .before .before .before .before) in (F .few, search needs, search needs, F .count, F .evens)
+levels-requires c κs = let F = known (c .before .before .before .before .before .before .before .before) in (search needs, search needs, F .count, F .evens)
 
 same-length : tie.Need-same-length
 same-length c = search needs

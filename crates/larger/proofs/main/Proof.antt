@@ -5,10 +5,10 @@ use Rattle.larger.proofs.main.Statement.{statement}
 use Rattle.larger.proofs.main.Tie as tie
 
 abbrev Inv-loop : tie.InvT-loop
-Inv-loop t₀ t = t ≤ 12
+Inv-loop t₀ t = t ≤ 14
 
 abbrev μ-loop : tie.MeasureT-loop
-μ-loop t₀ t = 12 - t
+μ-loop t₀ t = 14 - t
 
 loop-holds : tie.Need-loop-holds Inv-loop μ-loop
 loop-holds c = search needs

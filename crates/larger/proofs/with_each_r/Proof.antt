@@ -5,10 +5,10 @@ use Rattle.larger.proofs.with_each_r.Statement.{statement}
 use Rattle.larger.proofs.with_each_r.Tie as tie
 
 abbrev Inv-loop : tie.InvT-loop
-Inv-loop t r₀ r = r ≤ 13
+Inv-loop t r₀ r = r ≤ 15
 
 abbrev μ-loop : tie.MeasureT-loop
-μ-loop t r₀ r = 13 - r
+μ-loop t r₀ r = 15 - r
 
 loop-holds : tie.Need-loop-holds Inv-loop μ-loop
 loop-holds c = search needs

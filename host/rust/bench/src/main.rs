@@ -19,6 +19,8 @@ use std::process::ExitCode;
 
 const USAGE: &str = "usage: bench [--quick] [--csv FILE] [--plot FILE]";
 const FOLDER: &str = concat!(env!("CARGO_MANIFEST_DIR"), "/../../../target/host");
+/// The t that are timed, each with every r: 3 shows what a call costs whatever the length.
+const LENGTHS: [u32; 6] = [3, 4, 6, 8, 10, 12];
 const FULL: Effort = Effort {
     passes: 24,
     batches: 6,
@@ -58,7 +60,7 @@ fn read_arguments() -> Option<Asked> {
 }
 
 fn measure_all(effort: Effort) -> Vec<Figures> {
-    let pairs = [4, 6, 8, 10]
+    let pairs = LENGTHS
         .into_iter()
         .flat_map(|t| (1..=t).map(move |r| (t, r)));
     let codes: Vec<Programs> = pairs.filter_map(|(t, r)| Programs::of(t, r)).collect();

@@ -3,7 +3,7 @@
 use crate::copies::COPIES;
 use crate::measure::{Effort, Figures, Spread};
 use crate::programs::Table;
-use crate::samples::SAMPLES;
+use crate::samples::{Operation, SAMPLES};
 use std::fs;
 
 const INCLUDED: &str = "\
@@ -107,6 +107,23 @@ pub fn print(all: &[Figures]) {
         );
     }
     print_between(all);
+    print_growth(all);
+}
+
+/// Whether the cost grows no faster than the length: words have four times as many places at
+/// t = 12 as at t = 10.
+fn print_growth(all: &[Figures]) {
+    let time = |t, r| {
+        let mut rows = all.iter();
+        let row = rows.find(|f| (f.t, f.r, f.operation) == (t, r, Operation::Encode));
+        row.map(|figures| figures.library.median)
+    };
+    if let (Some(short), Some(long)) = (time(10, 5), time(12, 6)) {
+        println!(
+            "Encode at (12, 6) takes {:.2} times as long as at (10, 5); at most 4.5 is linear growth.",
+            long / short
+        );
+    }
 }
 
 /// How far one copy speaks for another.

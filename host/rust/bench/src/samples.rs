@@ -123,7 +123,7 @@ mod tests {
     /// Only a binary place makes zero when combined with itself; a pair's digit makes 2.
     #[test]
     fn binary_places_are_told_from_pairs() {
-        let pairs = (2..=10).flat_map(|t| (1..=t).map(move |r| (t, r)));
+        let pairs = (2..=12).flat_map(|t| (1..=t).map(move |r| (t, r)));
         for code in pairs.filter_map(|(t, r)| Code::open(t, r, 0).ok()) {
             for index in 0..code.length() {
                 let mut word = vec![0; code.length()];

@@ -20,11 +20,14 @@ fn runs_and_writes_its_files() {
     let run = command.output().expect("bench runs");
     let errors = String::from_utf8_lossy(&run.stderr);
     assert!(run.status.success(), "{}: {errors}", run.status);
+    let report = String::from_utf8_lossy(&run.stdout);
+    let growth = |line: &&str| line.starts_with("Encode at (12, 6) takes ");
+    assert_eq!(report.lines().filter(growth).count(), 1);
 
-    // 18 codes, six operations; the four codes with r = t have no pair to flip in.
+    // 27 codes, six operations; the six codes with r = t have no pair to flip in.
     let csv = fs::read_to_string(csv).expect("figures");
     let rows: Vec<&str> = csv.lines().collect();
-    assert_eq!(rows.len(), 1 + 18 * 6 - 4);
+    assert_eq!(rows.len(), 1 + 27 * 6 - 6);
     // Three for each program and each of the two ratios, and a ratio for each copy of the library.
     let figures = |row: &str| {
         row.rsplit(',')
@@ -34,9 +37,9 @@ fn runs_and_writes_its_files() {
     };
     assert!(rows[1..].iter().all(|row| figures(row) == 19));
 
-    // Two panels of six lines, each with a point for four lengths.
+    // Two panels of six lines, each with a point for six lengths.
     let plot = fs::read_to_string(plot).expect("a plot");
-    assert_eq!(plot.matches("<circle ").count(), 2 * 6 * 4);
+    assert_eq!(plot.matches("<circle ").count(), 2 * 6 * 6);
     assert!(plot.trim_end().ends_with("</svg>"));
 }
 

@@ -24,6 +24,29 @@ fn cases_of_3_2() {
     assert_eq!(third_place(3, 2, 4, 4), -6);
 }
 
+/// Words and places as long and as high as they come, and what is beyond.
+#[test]
+fn the_longest_codes() {
+    let (message, mut out) = ([0; 4083], [7; 4097]);
+    for r in [6, 12, 0] {
+        assert_eq!(encode(12, r, &message[..], &mut out[..]), 0);
+        assert!(out[..4095] == [0; 4095] && out[4095..] == [7, 7]);
+        let mut word = [0; 4095];
+        word[4094] = 1;
+        assert_eq!(correct(12, r, &word[..], &mut out[..]), 4095);
+        assert!(out[..4095] == [0; 4095] && out[4095..] == [7, 7]);
+        assert_eq!(
+            combine(12, r, &word[..], &out[..4095], &mut [7; 4095][..]),
+            0
+        );
+        assert!(third_place(12, r, 4095, 4094) > 0);
+        assert_eq!(third_place(12, r, 4096, 4094), -5);
+    }
+    for (t, r) in [(11, 5), (13, 7), (13, 0)] {
+        assert_eq!(encode(t, r, &message[..], &mut out[..]), NOT_ADMITTED);
+    }
+}
+
 /// Each buffer in turn empty or NULL. What is refused first tells that the length passed
 /// is 0, and that the others are passed as they are.
 #[test]

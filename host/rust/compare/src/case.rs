@@ -163,14 +163,14 @@ fn outside(places: &mut [u32; 2], n: usize, draw: &mut Draw) {
     }
 }
 
-/// t and r that are not admitted: from 0 to 12, or huge, or with one bit set far above an
+/// t and r that are not admitted: from 0 to 14, or huge, or with one bit set far above an
 /// admitted number, as a call would show that looks at some of the bits only.
 fn not_admitted(plan: &Plan, code: &Code, draw: &mut Draw) -> (u32, u32) {
     let mut parameter = |own: u32| match draw.below(8) {
         0 | 1 => own,
-        2 => draw.one_of(&[13, 31, 32, 33, 63, 64, 1 << 31, u32::MAX - 1, u32::MAX]),
+        2 => draw.one_of(&[15, 31, 32, 33, 63, 64, 1 << 31, u32::MAX - 1, u32::MAX]),
         3 => own | 1 << (4 + draw.below(28)),
-        _ => draw.below(13) as u32,
+        _ => draw.below(15) as u32,
     };
     loop {
         let (t, r) = (parameter(code.t()), parameter(code.r()));

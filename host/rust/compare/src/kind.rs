@@ -71,15 +71,16 @@ pub fn cells() -> Vec<(Call, Kind)> {
     .concat()
 }
 
-/// The answers that a case of this cell may have. A case with another answer is not counted
-/// as met, so that a generator gone wrong shows in the counts.
-pub fn answers(call: Call, kind: Kind) -> RangeInclusive<i32> {
+/// The answers that a case of this cell may have with a code of this length. A case with another
+/// answer is not counted as met, so that a generator gone wrong shows in the counts.
+pub fn answers(call: Call, kind: Kind, length: usize) -> RangeInclusive<i32> {
+    let n = length as i32;
     match (call, kind) {
         (Correct, Codeword) => 0..=0,
         // Two flips are still within one place of a codeword, but of another one.
-        (Correct, OneFlip | TwoFlips) => 1..=1023,
-        (Correct, Random | Sparse | LongerOutput | ZeroR) => 0..=1023,
-        (ThirdPlace, Inside | Neighbours | ZeroR) => 1..=1023,
+        (Correct, OneFlip | TwoFlips) => 1..=n,
+        (Correct, Random | Sparse | LongerOutput | ZeroR) => 0..=n,
+        (ThirdPlace, Inside | Neighbours | ZeroR) => 1..=n,
         (_, NotAdmitted) => -1..=-1,
         (_, Shorter | Longer | Empty | Null) => -2..=-2,
         (_, ShortOutput | NullOutput) => -3..=-3,

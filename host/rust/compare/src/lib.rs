@@ -88,7 +88,7 @@ fn work(shared: &Shared, thread: u64) -> Result<Counts> {
         let answer = check(&case, shared.library, shared.second).inspect_err(|_| {
             shared.end.fetch_min(number, Relaxed);
         })?;
-        if kind::answers(case.call, case.kind).contains(&answer) {
+        if kind::answers(case.call, case.kind, case.length).contains(&answer) {
             let (code, cell) = plan.turn(number);
             counts[code][cell] += 1;
         }

@@ -6,15 +6,16 @@ use compare::kind::answers;
 use compare::plan::Plan;
 use compare::{run, Run};
 
-/// How often each kind of each call comes with each code.
-const TIMES: u64 = 3_000;
+/// How often the plan is gone through: with it each kind of each call comes 2,400 times with each
+/// code of up to 1,023 places, and 600 times with one of 4,095.
+const ROUNDS: u64 = 600;
 
 #[test]
 fn millions_of_calls() {
-    let Plan { codes, cells } = Plan::new();
-    assert_eq!(codes.len(), 34);
-    let calls = TIMES * (codes.len() * cells.len()) as u64;
-    assert!(calls >= 5_000_000);
+    let plan = Plan::new();
+    assert_eq!(plan.codes.len(), 47);
+    let calls = ROUNDS * plan.round();
+    assert!(calls > 5_000_000);
     let asked = Run {
         seed: 2024,
         first: 0,
@@ -24,15 +25,21 @@ fn millions_of_calls() {
         Ok(counts) => counts,
         Err(mismatch) => panic!("{mismatch}"),
     };
-    for (code, counts) in codes.iter().zip(counts) {
-        for ((call, kind), count) in cells.iter().zip(counts) {
-            assert!(
-                count >= TIMES,
-                "{call:?} {kind:?} of ({}, {}): {count} of {TIMES} answers in {:?}",
-                code.t(),
-                code.r(),
-                answers(*call, *kind)
-            );
-        }
+    for (code, counts) in counts.iter().enumerate() {
+        check_counts(&plan, code, counts);
+    }
+}
+
+/// Every case of a code had an answer of its kind.
+fn check_counts(plan: &Plan, code: usize, counts: &[u64]) {
+    let (times, code) = (ROUNDS * plan.times(code), &plan.codes[code]);
+    for ((call, kind), count) in plan.cells.iter().zip(counts) {
+        assert!(
+            *count == times,
+            "{call:?} {kind:?} of ({}, {}): {count} of {times} answers in {:?}",
+            code.t(),
+            code.r(),
+            answers(*call, *kind, code.length())
+        );
     }
 }

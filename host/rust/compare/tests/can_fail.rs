@@ -7,11 +7,11 @@ use compare::plan::Plan;
 use compare::{run, Run};
 use second_c::{second_combine, second_correct, second_encode, second_third_place};
 
-/// Enough for every call and kind with every code.
+/// Enough for every call and kind with every code: two rounds of the plan, and more.
 const RUN: Run = Run {
     seed: 5,
     first: 0,
-    calls: 4_000,
+    calls: 20_000,
 };
 
 /// A call with one output, its answer followed by a fault.
@@ -39,6 +39,17 @@ stand_in!(place_one_on, second_correct, |answer, _word, _out, _len| {
         answer
     }
 });
+stand_in!(
+    place_in_ten_bits,
+    second_correct,
+    |answer, _word, _out, _len| {
+        if answer > 0 {
+            answer & 1023
+        } else {
+            answer
+        }
+    }
+);
 stand_in!(other_reason, second_encode, |answer, _word, _out, len| {
     if answer == -4 && len > 1000 {
         -3
@@ -128,6 +139,24 @@ unsafe extern "C" fn smallest_r(t: u32, r: u32, i: u32, j: u32) -> i32 {
     second_third_place(t, if r == 0 { t.div_ceil(2) } else { r }, i, j)
 }
 
+/// The limit as it was before request C-15.
+unsafe extern "C" fn limit_ten(t: u32, r: u32, i: u32, j: u32) -> i32 {
+    if t > 10 {
+        -1
+    } else {
+        second_third_place(t, r, i, j)
+    }
+}
+
+/// A limit that is too high by one, with some answer to places that a code of t = 12 would have.
+unsafe extern "C" fn limit_thirteen(t: u32, r: u32, i: u32, j: u32) -> i32 {
+    if t == 13 && (7..=13).contains(&r) {
+        second_third_place(12, 12, i, j)
+    } else {
+        second_third_place(t, r, i, j)
+    }
+}
+
 fn mismatch(wrong: Library) -> Mismatch {
     *run(RUN, &wrong, &SECOND, |_| {}).expect_err("a wrong library")
 }
@@ -178,6 +207,27 @@ fn wrong_answers() {
         ..SECOND
     });
     assert_eq!((found.case.kind, found.case.r), (Kind::ZeroR, 0));
+}
+
+/// The codes of t = 11 and 12 left out, taken for shorter ones, or one t more.
+#[test]
+fn wrong_limits() {
+    let found = mismatch(Library {
+        third_place: limit_ten,
+        ..SECOND
+    });
+    assert_eq!((found.case.t, found.library), (11, -1));
+    let found = mismatch(Library {
+        correct: place_in_ten_bits,
+        ..SECOND
+    });
+    assert!(found.second > 1023 && found.case.t > 10);
+    let found = mismatch(Library {
+        third_place: limit_thirteen,
+        ..SECOND
+    });
+    assert_eq!((found.case.t, found.second), (13, -1));
+    assert_ne!(found.library, -1);
 }
 
 #[test]
@@ -246,10 +296,8 @@ fn written_bytes_that_had_to_be_kept() {
 /// at the first case of a longer output.
 #[test]
 fn further_byte_of_a_longer_output() {
-    let plan = Plan::new();
     let cell = (Call::Encode, Kind::LongerOutput);
-    let longer = plan.cells.iter().position(|other| *other == cell);
-    let first = (plan.codes.len() * longer.expect("a cell")) as u64;
+    let first = Plan::new().first(cell).expect("a cell");
     let wrong = Library {
         encode: further_byte,
         ..SECOND

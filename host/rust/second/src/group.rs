@@ -1,12 +1,12 @@
 //! The group of syndromes: a components modulo 2, then b components modulo 4.
 //!
 //! An element is its list of components, and sums are made component by component.
-//! Assumes a + b <= 10, as in every admitted code (a + b = r).
+//! Assumes a + b <= 12, as in every admitted code (a + b = r).
 
 /// The components of an element; those after the first a + b are unused and 0.
-pub type Element = [u8; 10];
+pub type Element = [u8; 12];
 
-pub const ZERO: Element = [0; 10];
+pub const ZERO: Element = [0; 12];
 
 #[derive(Clone, Debug)]
 pub struct Group {
@@ -16,9 +16,9 @@ pub struct Group {
 
 /// The row of t in the paper's table of parameters: a and b of each group of 2^t elements, so that
 /// t = a + 2b and r = a + b. At t = 2 the types are (1, 1, 0) and (3, 0, 0); the first has r = 1,
-/// which the row's column of r leaves out by a slip. The rows in use are 2 to 10.
+/// which the row's column of r leaves out by a slip. The rows in use are 2 to 12.
 fn row(t: u32) -> impl Iterator<Item = (u32, u32)> {
-    let groups = if (2..=10).contains(&t) { t / 2 + 1 } else { 0 };
+    let groups = if (2..=12).contains(&t) { t / 2 + 1 } else { 0 };
     (0..groups).map(move |b| (t - 2 * b, b))
 }
 
@@ -52,7 +52,7 @@ impl Group {
     }
 
     /// The sum of coefficient times element over all terms. Totals are reduced once, at the
-    /// end: a word has at most 1,023 digits, each term at most 3 * 3.
+    /// end: a word has at most 4,095 digits, each term at most 3 * 3.
     pub fn sum(&self, terms: impl Iterator<Item = (u8, Element)>) -> Element {
         let mut totals = [0u32; ZERO.len()];
         for (coefficient, element) in terms {

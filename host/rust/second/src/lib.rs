@@ -3,8 +3,8 @@
 //!
 //! This second program is there to be compared with the engine, so it shares no code or table
 //! with it: it has only the paper's array, sums over it and searches in it. Which r a t has
-//! is told by the paper's table of parameters; the largest t, element numbers, order of
-//! places and refusals are those of document 01.
+//! is told by the paper's table of parameters; element numbers, order of places and refusals
+//! are those of document 01, and the largest t is request C-15's.
 //!
 //! A shortened code has the array without its first s entries, and everything else follows
 //! from that array: lengths, places, pairs, and which elements are missing.
@@ -70,8 +70,7 @@ impl Code {
         };
         let group = group::of_code(t, r).ok_or(Refusal::of(1))?;
         let images = layout::images(&group);
-        let whole = Code::from_images(t, r, group, images);
-        whole.shortened(s)
+        Code::from_images(t, r, group, images).shortened(s)
     }
 
     /// Opens a whole code as the sheet and the calls for C do, to which r = 0 means r = t.
@@ -93,16 +92,17 @@ impl Code {
         }
     }
 
-    /// A whole code's array without its first s entries. A message place has to stay, and a
-    /// digit has to begin with the first place that stays: no pair is cut in two.
-    fn shortened(self, s: u32) -> Result<Code, Refusal> {
+    /// The array without its first s entries. A message place has to stay, and a digit has to
+    /// begin with the first place that stays: no pair is cut in two.
+    pub fn shortened(&self, s: u32) -> Result<Code, Refusal> {
         let left_out = s as usize;
         let begins = |digit: &Digit| digit.first_place() == left_out;
         if left_out >= self.message_length() || !self.digits.iter().any(begins) {
             return Err(Refusal::of(10));
         }
         let images = self.images[left_out..].to_vec();
-        let shorter = Code::from_images(self.t, self.r, self.group, images);
+        let shorter = Code::from_images(self.t, self.r, self.group.clone(), images);
+        let s = self.s + s;
         Ok(Code { s, ..shorter })
     }
 

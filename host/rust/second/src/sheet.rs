@@ -68,20 +68,25 @@ mod tests {
     /// The last place has the last unit element.
     #[test]
     fn the_longest_sheets() {
-        for (input, first, last, bytes) in [
-            ("10 5\n", "code 10 5 1023 1013", "1023 256", 8_036),
-            ("10 10\n", "code 10 10 1023 1013", "1023 512", 8_037),
+        for (t, r, last, bytes) in [
+            (10, 10, 512, 8_037),
+            (11, 6, 512, 18_276),
+            (11, 11, 1_024, 18_277),
+            (12, 6, 1_024, 38_756),
+            (12, 12, 2_048, 38_757),
         ] {
-            let text = text(input.as_bytes());
+            let text = text(format!("{t} {r}\n").as_bytes());
             let lines: Vec<&str> = text.lines().collect();
-            assert_eq!((lines.len(), text.len()), (1_024, bytes));
-            assert_eq!((lines[0], lines[1_023]), (first, last));
+            let n = (1 << t) - 1;
+            assert_eq!((lines.len(), text.len()), (n + 1, bytes));
+            assert_eq!(lines[0], format!("code {t} {r} {n} {}", n - t));
+            assert_eq!(lines[n], format!("{n} {last}"));
         }
     }
 
     #[test]
     fn r_given_as_0_is_t() {
-        for t in 0..=12 {
+        for t in 0..=14 {
             let [zero, twice] = [format!("{t} 0\n"), format!("{t} {t}\n")];
             assert_eq!(text(zero.as_bytes()), text(twice.as_bytes()), "{t}");
         }
@@ -97,7 +102,8 @@ mod tests {
     #[test]
     fn parameters_not_admitted() {
         all_print(b"0 0\n|1 1\n|5 2\n|4 5\n|0 3\n", "refused 1\n");
-        all_print(b"11 6\n|11 0\n|259 258\n|9999 9999\n", "refused 1\n");
+        all_print(b"11 5\n|12 5\n|12 13\n|13 7\n", "refused 1\n");
+        all_print(b"13 13\n|13 0\n|259 258\n|9999 9999\n", "refused 1\n");
     }
 
     #[test]

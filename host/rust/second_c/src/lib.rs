@@ -14,8 +14,8 @@ use std::sync::OnceLock;
 
 type Opened = OnceLock<Result<Code, Refusal>>;
 
-/// By t, then r as it is given, up to 10.
-static CODES: [[Opened; 11]; 11] = [const { [const { OnceLock::new() }; 11] }; 11];
+/// By t, then r as it is given, up to 12.
+static CODES: [[Opened; 13]; 13] = [const { [const { OnceLock::new() }; 13] }; 13];
 
 fn answer(t: u32, r: u32, call: impl FnOnce(&Code) -> Result<u32, Refusal>) -> i32 {
     let row = CODES.get(t as usize);

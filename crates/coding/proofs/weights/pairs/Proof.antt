@@ -7,7 +7,7 @@ use Rattle.coding.proofs.weights.pairs.Statement.{statement}
 use Rattle.coding.proofs.weights.pairs.Tie as tie
 
 abbrev Inv-loop : tie.InvT-loop
-Inv-loop a b count part word v₀ p₀ e₀ at₀ j₀ v p e at j = Pairing a b part word v p e at j
+Inv-loop a b count part word v₀ p₀ e₀ at₀ j₀ v p e at j = Pairing a b part word v₀ v p e at j
 
 abbrev μ-loop : tie.MeasureT-loop
 μ-loop a b count part word v₀ p₀ e₀ at₀ j₀ v p e at j = b - j
@@ -24,7 +24,7 @@ segment : (l : tie.In-loop Inv-loop μ-loop)
     Segment (s .args .a) (s .args .b) (s .args .count) (s .args .part) (s .args .word .now) (s .pre .0) (v .p) (v .e) (v .at) (v .j)
 segment l =
     let s = l .before .before .before .before .before in
-    pairing-asks _ _ _ _ (s .args .word .now) (s .pre .0) _ _ _ _ _ (l .before .loop .inv) (l .loop-test .taken)
+    pairing-asks _ _ _ _ (s .args .word .now) (s .pre .0) _ _ _ _ _ _ (l .before .loop .inv) (l .loop-test .taken)
 
 mul-n : tie.Need-mul-n Inv-loop μ-loop
 mul-n c = let l = c in let S = segment l in let i = l .before .loop .inv in search needs
@@ -63,13 +63,13 @@ loop-again : tie.Need-loop-again Inv-loop μ-loop
 loop-again c =
     let l = c .before .before .before .before in
     let b = l .before .before .before .before .before in
-    pairing-step _ _ _ _ (b .args .word .now) (b .pre .0) _ _ _ _ _ (l .before .loop .inv) (l .loop-test .taken) _ (search needs) (c .before .before .pair-segment .ensures)
+    pairing-step _ _ _ _ (b .args .word .now) (b .pre .0) _ _ _ _ _ _ (l .before .loop .inv) (l .loop-test .taken) _ (search needs) (c .before .before .pair-segment .ensures)
 
 same-length : tie.Need-same-length Inv-loop μ-loop
-same-length c = let i = c .before .loop .inv .wide in let h = c .before .before .before .before .before .pre .1 in search needs
+same-length c = search needs
 
 returns : tie.Need-returns Inv-loop μ-loop
-returns c = let b = c .before .before .before .before .before in pairing-done _ _ _ _ (b .args .word .now) (b .pre .0) _ _ _ _ _ (c .before .loop .inv) (c .loop-test .left)
+returns c = let b = c .before .before .before .before .before in pairing-done _ _ _ _ (b .args .word .now) (b .pre .0) _ _ _ _ _ _ (c .before .loop .inv) (c .loop-test .left)
 
 pub pairs-spec : {M : Type 1} → statement M
 pairs-spec =

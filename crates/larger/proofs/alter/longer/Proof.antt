@@ -5,10 +5,10 @@ use Rattle.larger.proofs.alter.longer.Statement.{statement}
 use Rattle.larger.proofs.alter.longer.Tie as tie
 
 abbrev Inv-loop : tie.InvT-loop
-Inv-loop word b₀ i₀ b i = i ≤ 1026
+Inv-loop word b₀ i₀ b i = i ≤ 4098
 
 abbrev μ-loop : tie.MeasureT-loop
-μ-loop word b₀ i₀ b i = 1026 - i
+μ-loop word b₀ i₀ b i = 4098 - i
 
 loop-holds : tie.Need-loop-holds Inv-loop μ-loop
 loop-holds c = search needs

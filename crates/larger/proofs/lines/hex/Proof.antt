@@ -1,4 +1,4 @@
--- `larger::lines::hex` is safe and ends: no index is above 255. Assumes nothing.
+-- `larger::lines::hex` is safe and ends: no index is above 1,023. Assumes nothing.
 use borrow.Author.Needs.{needs}
 use mathlib.Core.Path.{_≡_}
 use lib.ListN.{length}
@@ -7,10 +7,10 @@ use Rattle.larger.proofs.lines.hex.Statement.{statement}
 use Rattle.larger.proofs.lines.hex.Tie as tie
 
 abbrev Inv-loop : tie.InvT-loop
-Inv-loop w digits₀ i₀ t4 digits i = (i ≤ 256) × (length digits ≡ 256)
+Inv-loop w digits₀ i₀ t4 digits i = (i ≤ 1024) × (length digits ≡ 1024)
 
 abbrev μ-loop : tie.MeasureT-loop
-μ-loop w digits₀ i₀ t4 digits i = 256 - i
+μ-loop w digits₀ i₀ t4 digits i = 1024 - i
 
 loop-holds : tie.Need-loop-holds Inv-loop μ-loop
 loop-holds c = search needs

@@ -5,10 +5,10 @@ use Rattle.larger.proofs.openings.all.Statement.{statement}
 use Rattle.larger.proofs.openings.all.Tie as tie
 
 abbrev Inv-loop : tie.InvT-loop
-Inv-loop t r found₀ s₀ found s = s ≤ 1026
+Inv-loop t r found₀ s₀ found s = s ≤ 4098
 
 abbrev μ-loop : tie.MeasureT-loop
-μ-loop t r found₀ s₀ found s = 1026 - s
+μ-loop t r found₀ s₀ found s = 4098 - s
 
 loop-holds : tie.Need-loop-holds Inv-loop μ-loop
 loop-holds c = search needs

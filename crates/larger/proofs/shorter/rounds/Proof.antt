@@ -1,14 +1,14 @@
 -- `larger::shorter::rounds` ends. Assumes nothing.
 use borrow.Author.Needs.{needs}
-use Prim.Native.Nat.{_-_, _≤_}
+use Prim.Native.Nat.{_-_}
 use Rattle.larger.proofs.shorter.rounds.Statement.{statement}
 use Rattle.larger.proofs.shorter.rounds.Tie as tie
 
 abbrev Inv-loop : tie.InvT-loop
-Inv-loop start t r m x₀ i₀ x i = i ≤ 12
+Inv-loop count start t r m x₀ i₀ x i = Unit {0}
 
 abbrev μ-loop : tie.MeasureT-loop
-μ-loop start t r m x₀ i₀ x i = 12 - i
+μ-loop count start t r m x₀ i₀ x i = count - i
 
 message-length-requires : tie.Need-message-length-requires Inv-loop μ-loop
 message-length-requires c κs = search needs

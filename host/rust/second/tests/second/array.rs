@@ -28,12 +28,12 @@ fn is_rising(numbers: &[u32]) -> bool {
 
 #[test]
 fn the_admitted_pairs() {
-    let least_r = [1, 2, 2, 3, 3, 4, 4, 5, 5];
+    let least_r = [1, 2, 2, 3, 3, 4, 4, 5, 5, 6, 6];
     let mut pairs = Vec::new();
-    for (t, least) in (2..=10).zip(least_r) {
+    for (t, least) in (2..=12).zip(least_r) {
         pairs.extend((least..=t).map(|r| (t, r)));
     }
-    assert_eq!(pairs.len(), 34);
+    assert_eq!(pairs.len(), 47);
     let opened: Vec<(u32, u32)> = codes().iter().map(|code| (code.t(), code.r())).collect();
     assert_eq!(opened, pairs);
 }

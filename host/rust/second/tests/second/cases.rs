@@ -1,5 +1,5 @@
-//! Every case of document 01 that this program has a call for, and those of requests C-11 and
-//! C-13.
+//! Every case of document 01 that this program has a call for, and those of requests C-11,
+//! C-13 and C-15.
 
 use super::{combine, correct, encode, flipped, invert, layout, open, word};
 
@@ -26,8 +26,13 @@ fn parameters() {
     assert_eq!(sizes(4, 2), (4, 2, 15, 11));
     assert_eq!(sizes(10, 5), (10, 5, 1_023, 1_013));
     assert_eq!(sizes(10, 10), (10, 10, 1_023, 1_013));
+    assert_eq!(sizes(11, 6), (11, 6, 2_047, 2_036));
+    assert_eq!(sizes(12, 6), (12, 6, 4_095, 4_083));
+    assert_eq!(sizes(12, 12), (12, 12, 4_095, 4_083));
     assert_eq!(sizes(2, 0), (2, 1, 3, 1));
     assert_eq!(sizes(3, 0), (3, 2, 7, 4));
+    assert_eq!(sizes(11, 0), (11, 6, 2_047, 2_036));
+    assert_eq!(sizes(12, 0), (12, 6, 4_095, 4_083));
 }
 
 #[test]

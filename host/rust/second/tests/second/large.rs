@@ -1,4 +1,4 @@
-//! Drawn words of the six codes with n = 1,023.
+//! Drawn words of the codes with n = 1,023, 2,047 and 4,095.
 
 use super::{codes, combine, correct, encode, flipped, invert};
 use second::draw::Draw;
@@ -8,8 +8,10 @@ const ROUNDS: usize = 100;
 
 fn for_drawn_rounds(check: impl Fn(&Code, &mut Draw)) {
     let mut large = codes();
-    large.retain(|code| code.length() == 1_023);
-    assert_eq!(large.len(), 6);
+    large.retain(|code| code.length() >= 1_023);
+    let lengths: Vec<usize> = large.iter().map(Code::length).collect();
+    let expected = [vec![1_023; 6], vec![2_047; 6], vec![4_095; 7]];
+    assert_eq!(lengths, expected.concat());
     for code in large {
         let mut draw = Draw::from_state(4_271 + code.r());
         for _ in 0..ROUNDS {

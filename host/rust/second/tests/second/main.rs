@@ -19,7 +19,7 @@ fn open(t: u32, r: u32) -> Code {
 
 /// Every code that opens with r given, by rising t, then r.
 fn codes() -> Vec<Code> {
-    let pairs = (0..=12).flat_map(|t| (1..=12).map(move |r| (t, r)));
+    let pairs = (0..=14).flat_map(|t| (1..=14).map(move |r| (t, r)));
     pairs
         .filter_map(|(t, r)| Code::open(t, r, 0).ok())
         .collect()

@@ -48,8 +48,14 @@ fn parameters() {
         (1, 1, 0, 22),
         (2, 1, 1, 10),
         (5, 2, 0, 22),
-        (11, 6, 0, 22),
         (4, 5, 0, 22),
+        (11, 6, 0, 0),
+        (11, 5, 0, 22),
+        (12, 6, 4_082, 10),
+        (12, 12, 4_082, 0),
+        (12, 13, 0, 22),
+        (13, 7, 0, 22),
+        (13, 13, 0, 22),
         (FULL, FULL, 0, 22),
         (0, 0, 0, 21),
         (0, 2, 0, 21),
@@ -61,7 +67,7 @@ fn parameters() {
 /// Opening turns r = 0 into the smallest r; a record that still has it was not opened.
 #[test]
 fn no_r() {
-    let smallest = [1, 2, 2, 3, 3, 4, 4, 5, 5];
+    let smallest = [1, 2, 2, 3, 3, 4, 4, 5, 5, 6, 6];
     for (t, r) in (2..).zip(smallest) {
         let code = Code::open(t, 0, 0).expect("t has an r");
         assert_eq!(Record::of(&code), Record::fresh(t, r, 0));
@@ -70,7 +76,7 @@ fn no_r() {
     }
     let shortened = Code::open(5, 0, 1).expect("s is allowed");
     assert_eq!(Record::of(&shortened), Record::fresh(5, 3, 1));
-    for t in 1..=11 {
+    for t in 1..=13 {
         assert_eq!(reason(Record::fresh(t, 0, 0)), 22, "{t}");
     }
 }

@@ -61,6 +61,8 @@ fn those_that_take_other_lines() {
         r#"sed 's/ $//' | "$0""#,
         r#"sed 's/^0*//' | "$0""#,
         r#"sed 's/^4 0$/4 2/' | "$0""#,
+        r#"sed 's/^12 /13 /' | "$0""#,
+        r#"sed 's/^13 7$/12 7/' | "$0""#,
         r#"LC_ALL=C tr '\200-\377' '\000-\177' | "$0""#,
     ] {
         found_out(script);
@@ -73,7 +75,7 @@ fn those_that_print_other_texts() {
         "cat >/dev/null",
         r#""$0" | head -c 64"#,
         r#"text=$("$0"); test ${#text} -ge 64 || echo "$text""#,
-        r#""$0" | sed '1000s/$/0/'"#,
+        r#""$0" | sed '4000s/$/0/'"#,
         r#""$0" | tr ' ' '\t'"#,
         r#""$0"; echo"#,
         r#""$0" | sed 's/^refused 1$/refused 7/'"#,

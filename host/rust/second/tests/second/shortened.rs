@@ -72,7 +72,7 @@ fn the_allowed_s_of_every_code() {
         let part_1 = (1 << r) - 1 - (2 * r - t);
         let fits = |s: u32| (s <= part_1 || (s - part_1) % 2 == 0) && s < n - t;
         for s in (0..=n + 3).chain([u32::MAX - 1, u32::MAX]) {
-            match Code::open(t, r, s) {
+            match code.shortened(s) {
                 Ok(opened) => {
                     assert!(fits(s), "({t}, {r}) {s}");
                     let told = (opened.t(), opened.r(), opened.s());
@@ -112,6 +112,15 @@ fn places_are_renumbered() {
     assert_eq!(shortened(3, 2, 2), [7, 3, 1, 6, 2]);
     assert_eq!(shortened(4, 2, 3)[..], layout(&open(4, 2))[3..]);
     assert_eq!(shortened(4, 2, 9), [7, 13, 3, 1, 12, 4]);
+}
+
+#[test]
+fn in_two_steps() {
+    let once = Code::open(4, 3, 5).expect("allowed");
+    let first = Code::open(4, 3, 2).expect("allowed");
+    let then = first.shortened(3).expect("allowed");
+    assert_eq!((then.s(), layout(&then)), (5, layout(&once)));
+    assert_eq!(first.shortened(4).expect_err("a pair cut"), refused(10));
 }
 
 /// At most one codeword is within one place of a word; correction gives it and its place, and

@@ -139,10 +139,10 @@ mod tests {
     fn lengths() {
         check_lines(
             "word_length (3,2): 7
-            word_length (10,5,1): 1022
+            word_length (12,6,1): 4094
             word_length (3,2,2,4294967295,0,4294967295): 5
             message_length (3,2): 4
-            message_length (10,5,1): 1012
+            message_length (12,6,1): 4082
             message_length (3,2,2,4294967295,0,4294967295): 2",
         );
     }
@@ -251,11 +251,11 @@ mod tests {
     #[test]
     fn long_words() {
         let zeros = |length| "0".repeat(length);
-        let (word, message) = (zeros(1_023), zeros(1_013));
-        check_lines(&format!("read_message (10,5) [{word}]: [{message}]"));
-        let (message, word, nines) = (zeros(1_012), zeros(1_022), "9".repeat(1_023));
+        let (word, message) = (zeros(4_095), zeros(4_083));
+        check_lines(&format!("read_message (12,6) [{word}]: [{message}]"));
+        let (message, word, nines) = (zeros(4_082), zeros(4_094), "9".repeat(4_095));
         check_lines(&format!(
-            "encode (10,5,1) [{message}] {{{nines}}}: refusal 0 place 0 {{{word}9}}"
+            "encode (12,6,1) [{message}] {{{nines}}}: refusal 0 place 0 {{{word}9}}"
         ));
     }
 }

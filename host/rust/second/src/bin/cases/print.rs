@@ -42,7 +42,7 @@ mod tests {
     #[test]
     fn places_and_refusals() {
         assert_eq!(told(Ok(0)), "refusal 0 place 0");
-        assert_eq!(told(Ok(1_023)), "refusal 0 place 1023");
+        assert_eq!(told(Ok(4_095)), "refusal 0 place 4095");
         let refusal = Refusal {
             number: 4,
             place: 7,

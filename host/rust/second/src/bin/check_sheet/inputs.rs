@@ -5,8 +5,8 @@ use std::collections::BTreeSet;
 
 type Input = Vec<u8>;
 
-/// The shortest good line, one with two digits, and the longest, ten bytes.
-const GOOD: [&[u8]; 3] = [b"3 2\n", b"10 5\n", b"0003 0002\n"];
+/// The shortest good line, one of a longest code, and the longest line, ten bytes.
+const GOOD: [&[u8]; 3] = [b"3 2\n", b"12 6\n", b"0003 0002\n"];
 
 /// Spaces and other controls, signs and marks, the digits and their neighbours, and bytes that
 /// would pass for a newline, a space or a digit if their highest bit were lost.
@@ -31,9 +31,9 @@ pub fn in_pieces() -> [(&'static [u8], usize); 2] {
     [(GOOD[0], 2), (GOOD[2], 5)]
 }
 
-/// Every admitted code is among them.
+/// Every admitted code is among them, and each number up to two above the largest t.
 fn small_numbers() -> impl Iterator<Item = Input> {
-    let pairs = (0..=12).flat_map(|t| (0..=12).map(move |r| (t, r)));
+    let pairs = (0..=14).flat_map(|t| (0..=14).map(move |r| (t, r)));
     pairs.map(|(t, r)| line(t, r))
 }
 
@@ -46,7 +46,7 @@ fn widths() -> impl Iterator<Item = Input> {
     let widths = (1..=6).flat_map(|first| (1..=6).map(move |second| (first, second)));
     widths.flat_map(|(first, second)| {
         let padded = |(t, r)| format!("{t:0first$} {r:0second$}\n").into_bytes();
-        [(3, 2), (4, 0), (10, 5)].map(padded)
+        [(3, 2), (4, 0), (12, 6)].map(padded)
     })
 }
 
@@ -130,8 +130,8 @@ mod tests {
     fn every_code_and_both_refusals() {
         let texts: BTreeSet<String> = all().iter().map(|input| sheet::text(input)).collect();
         let is_sheet = |text: &&String| text.starts_with("code ");
-        assert_eq!(texts.iter().filter(is_sheet).count(), 34);
-        assert_eq!(texts.len(), 34 + 2);
+        assert_eq!(texts.iter().filter(is_sheet).count(), 47);
+        assert_eq!(texts.len(), 47 + 2);
         assert!(texts.contains("refused 1\n") && texts.contains("refused 7\n"));
     }
 

@@ -6,10 +6,11 @@ use crate::round::Round;
 use second::draw::Draw;
 use second::Code;
 
-pub fn rounds(whole: &Code, draw: &mut Draw) -> String {
+/// Nine s that are fixed and so many drawn ones.
+pub fn rounds(whole: &Code, drawn: u32, draw: &mut Draw) -> String {
     let (t, r) = (whole.t(), whole.r());
     let mut text = String::new();
-    for turn in 0..12 {
+    for turn in 0..9 + drawn {
         let s = chosen(whole, turn, draw);
         text += &opening(t, r, s);
         if let Ok(code) = Code::open(t, r, s) {
@@ -25,7 +26,7 @@ fn chosen(whole: &Code, turn: u32, draw: &mut Draw) -> u32 {
     let (k, a) = ((1 << whole.r()) - 1, 2 * whole.r() - whole.t());
     let part_1: u32 = k - a;
     let m = whole.message_length() as u32;
-    // Each turn draws; the last three take what they drew. Where t = 2, m - 2 wraps.
+    // Each turn draws; those after the ninth take what they drew. Where t = 2, m - 2 wraps.
     let drawn = 1 + draw.below(whole.message_length()) as u32;
     let fixed = [
         1,
