@@ -2,7 +2,6 @@
 use borrow.Author.Needs.{needs}
 use borrow.Author.Tests.{leb-true, leb-false}
 use mathlib.Core.Path.{sym, _∙_}
-use native.Mathlib.Omega.{arith}
 use Rattle.folds_theory.proofs.Levelling.{holds-within}
 use Rattle.folds_theory.proofs.Wholes.{with-room, without-room}
 use Rattle.folds.proofs.weighted6.Statement.{statement}
