@@ -1,4 +1,5 @@
--- Bounds on the lengths, on the refusals and on the places that are told, for callers that add them up or tell them as signed numbers.
+-- Bounds on the lengths, on the numbers of elements, on the refusals and on the places that are told, for callers that add them up or tell them
+-- as signed numbers.
 -- Assumes nothing.
 use mathlib.Core.Path.{_≡_, refl, sym, ap, _∙_}
 use mathlib.Core.Bool.{Bool, true, false, _&&_, not}

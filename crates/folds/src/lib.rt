@@ -33,7 +33,8 @@ pub type Weights10 = [u8; ROOM10];
 
 pub type Weights12 = [u8; ROOM12];
 
-// The sum of the elements, each times its weight; zero where there is no room for so many.
+// The sum of the elements, each times its weight, of a code up to t = 6, 10 and 12; zero where there is no
+// room for so many.
 pub fn weighted6(a: usize, b: usize, mut v: Weights6) -> Element
     ensures { λ r. ⌜ r ≡ weightedFor 6 a b v ⌝ }
 {

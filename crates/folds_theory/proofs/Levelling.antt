@@ -165,7 +165,6 @@ pub round : (a b top : ℕ) (v₀ x v r : List ℕ) (n e j : ℕ) → Levelling 
 round a b top v₀ x v r n e zero f h = absurd (omega arith)
 round a b top v₀ x v r n e (suc j) f h =
     let few = f .holds .few in
-    let en = f .holds .enough in
     let under = f .under in
     let wi = f .within in
     let co = f .count in
@@ -290,7 +289,6 @@ unfolding twice
 levelling-done a b top v₀ x v r n e (suc j) f h y g = absurd (omega arith)
 levelling-done a b top v₀ x v r n e zero f h y g =
     let few = f .holds .few in
-    let en = f .holds .enough in
     let co = f .count in
     let z : a + 0 ≡ a = omega arith in
     let L : ℕ → List ℕ = λ i. twice (blocks.low (take i (moduli a b))) in

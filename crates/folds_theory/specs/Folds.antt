@@ -16,7 +16,7 @@ widest = 12
 abbrev pub room : ℕ
 room = 4096
 
--- k weights are one or more for each element, and no more than there is room for
+-- an array of k weights has one for each element, and no more than there is room for
 pub record Holds (a b k : ℕ) : Type 0 where
   pub few : a + 2 * b ≤ widest
   pub enough : size (moduli a b) ≤ k
@@ -31,8 +31,8 @@ twice (x ∷ xs) = x ∷ x ∷ twice xs
 unfoldable pub weightOrder : List Modulus → List ℕ
 weightOrder ms = twice (plus ms) ++ even ms
 
--- what is answered for an array with room for codes up to t: the sum of the elements in this order, each times its weight; zero where there is
--- no room for so many
+-- what `weighted6`, `weighted10` and `weighted12` answer, with room for codes up to t: the sum of the elements in this order, each times its
+-- weight; zero where there is no room for so many
 unfoldable pub weightedFor : ℕ → ℕ → ℕ → List ℕ → List ℕ
 weightedFor t a b v =
     elim (leb (a + 2 * b) t) as (λ _. List ℕ) [
