@@ -9,7 +9,7 @@
 
 #include "testing.h"
 
-/* The bound of z2z4.h; a lower one shows that the test can fail. */
+/* The bound of z2z4.h; -DBOUND=4096 shows that the test can fail. */
 #ifndef BOUND
 #define BOUND 32768
 #endif

@@ -12,8 +12,8 @@ static int accepted, refused;
 /* Now and then one place less or more than there should be. */
 static size_t near(size_t exact)
 {
-    uint32_t draw = below(16);
-    return draw == 0 ? exact - 1 : draw == 1 ? exact + 1 : exact;
+    uint32_t turn = below(16);
+    return turn == 0 ? exact - 1 : turn == 1 ? exact + 1 : exact;
 }
 
 /* Ones only, or ones at every second place, so that every pair has digit 2, 3 or 1: the largest sums of elements. */

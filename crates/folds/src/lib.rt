@@ -15,7 +15,7 @@ ghost use Rattle.group_theory.specs.Weights as weights;
 ghost use Rattle.blocks_theory.specs.Blocks.{plus, level, evenTo};
 ghost use Rattle.folds_theory.specs.Folds as folds;
 ghost use Rattle.folds_theory.specs.Folds.{stretch, firstPlus, firstTops, nextPlus, plusTops, nextLow, lowTops, stride, Halved};
-ghost use Rattle.folds_theory.specs.Folds.{room, Holds, twice, weightOrder, weightedFor};
+ghost use Rattle.folds_theory.specs.Folds.{room, widest, Holds, twice, weightOrder, weightedFor};
 use group::Element;
 use std::num;
 
@@ -38,28 +38,28 @@ pub type Weights12 = [u8; ROOM12];
 pub fn weighted6(a: usize, b: usize, mut v: Weights6) -> Element
     ensures { λ r. ⌜ r ≡ weightedFor 6 a b v ⌝ }
 {
-    if within(a, b, 6) {
-        both(a, b, &mut v)
-    } else {
-        group::zero(a, b)
-    }
+    up_to(6, a, b, &mut v)
 }
 
 pub fn weighted10(a: usize, b: usize, mut v: Weights10) -> Element
     ensures { λ r. ⌜ r ≡ weightedFor 10 a b v ⌝ }
 {
-    if within(a, b, 10) {
-        both(a, b, &mut v)
-    } else {
-        group::zero(a, b)
-    }
+    up_to(10, a, b, &mut v)
 }
 
 pub fn weighted12(a: usize, b: usize, mut v: Weights12) -> Element
     ensures { λ r. ⌜ r ≡ weightedFor 12 a b v ⌝ }
 {
-    if within(a, b, 12) {
-        both(a, b, &mut v)
+    up_to(12, a, b, &mut v)
+}
+
+// The same with room for codes up to any t.
+fn up_to(t: usize, a: usize, b: usize, v: &mut [u8]) -> Element
+    requires { ⌜ (t ≤ widest) × (2 ^ t ≤ length (now v)) × (length (now v) ≤ room) ⌝ }
+    ensures { λ r. ⌜ r ≡ weightedFor t a b (now (v .entry)) ⌝ }
+{
+    if within(a, b, t) {
+        both(a, b, v)
     } else {
         group::zero(a, b)
     }

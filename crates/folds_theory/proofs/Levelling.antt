@@ -54,9 +54,6 @@ module _ (a b : ℕ) (few : a + 2 * b ≤ widest) where
   size-within : (t : ℕ) → a + 2 * b ≤ t → size (moduli a b) ≤ 2 ^ t
   size-within t h = rw (sym (size-in-use a b), size-level b (omega arith)) (pow-mono {i = a + 2 * b} {j = t} h)
 
-  pub size-room : size (moduli a b) ≤ room
-  size-room = size-within widest few
-
   -- the code's p and m
   pub blocks-at : (j : ℕ) → j ≤ b → (n e : ℕ) → n ≡ size (level a b j) → e ≡ evenTo a b j
       → (length (twice (blocks.plus (level a b j))) ≡ n - e) × (length (twice (blocks.low (level a b j))) ≡ n + e) × (e ≤ n)

@@ -2,19 +2,20 @@
 use mathlib.Core.Path.{_≡_}
 use mathlib.Core.List.{List, [], _∷_, _++_}
 use mathlib.Core.Bool.{true, false}
-use Prim.Native.Nat.{ℕ, zero, suc, _+_, _*_, _≤_, _<_}
+use Prim.Native.Nat.{ℕ, zero, suc, _+_, _*_, _^_, _≤_, _<_}
 use lib.Dec.{leb, ltb}
 use lib.ListN.{length, take, drop}
 use Rattle.group_theory.specs.Group.{Modulus, moduli, zeros, size}
 use Rattle.group_theory.specs.Weights.{weighOn, shifted, added, Below}
+use Rattle.layout_theory.specs.Parameters.{longest}
 use Rattle.blocks_theory.specs.Blocks.{plus, low, even, level}
 
--- the largest t that there is room for, and the room: 2^t weights
+-- the largest t that there is room for, the largest in use, and the room: 2^t weights
 abbrev pub widest : ℕ
-widest = 12
+widest = longest
 
 abbrev pub room : ℕ
-room = 4096
+room = 2 ^ widest
 
 -- an array of k weights has one for each element, and no more than there is room for
 pub record Holds (a b k : ℕ) : Type 0 where

@@ -33,8 +33,11 @@ use Rattle.loops_theory.specs.Writing.{Blank}
 use Rattle.loops_theory.proofs.PlaceSums.{length-combine}
 
 -- ---- no word of a code is longer than there is room for
+places-within : (k t : ℕ) → t ≤ k → placesOf t ≤ 2 ^ k
+places-within k t h = let q : 2 ^ t ≤ 2 ^ k = pow-mono {i = t} {j = k} h in omega arith
+
 pub places-room : (t r : ℕ) → Admitted t r → placesOf t ≤ room
-places-room t r ok = let q : 2 ^ t ≤ 2 ^ longest = pow-mono {i = t} {j = longest} (ok .most) in omega arith
+places-room t r ok = places-within longest t (ok .most)
 
 -- ---- arrays of zeros
 take-zeros : (s n : ℕ) → s ≤ n → take s (zeroWord n) ≡ zeroWord s
@@ -42,8 +45,11 @@ take-zeros zero n h = refl
 take-zeros (suc s) zero h = absurd (omega arith)
 take-zeros (suc s) (suc n) h = ap {B = List ℕ} (λ (t : List ℕ). 0 ∷ t) (take-zeros s n (omega arith))
 
-pub blank : (n k : ℕ) → n ≤ k → Blank n (zeroWord k)
-blank n k h = let l = length-replicate {A = ℕ} k 0 in record { space = omega arith; zeros = ap zeroWord (sym l) }
+pub blank : (k t : ℕ) → t ≤ k → Blank (placesOf t) (zeroWord (2 ^ k))
+blank k t h =
+    let l = length-replicate {A = ℕ} (2 ^ k) 0 in
+    let q = places-within k t h in
+    record { space = omega arith; zeros = ap zeroWord (sym l) }
 
 pub fewer-blank : {n k : ℕ} {v : List ℕ} → Blank n v → k ≤ n → Blank k v
 fewer-blank b h = let s = b .space in record { space = omega arith; zeros = b .zeros }

@@ -16,12 +16,11 @@ pub(crate) fn syndrome(t: u32, r: u32, s: u32, word: &[u8]) -> Element
     requires { ⌜ Fits t r s (placesOf t) (length (now word)) ⌝ }
     ensures { λ x. ⌜ x ≡ shortenedSyndrome (moduliFor t r) s (now (word .entry)) ⌝ }
 {
-    let n = s as usize + word.len();
-    if n <= folds::ROOM6 {
+    if t <= 6 {
         let mut v = [0u8; folds::ROOM6];
         return fill::syndrome(t, r, s, word, &mut v);
     }
-    if n <= folds::ROOM10 {
+    if t <= 10 {
         let mut v = [0u8; folds::ROOM10];
         return fill::syndrome(t, r, s, word, &mut v);
     }
@@ -33,12 +32,11 @@ pub(crate) fn fault(t: u32, r: u32, s: u32, word: &[u8]) -> u32
     requires { ⌜ Fits t r s (placesOf t) (length (now word)) ⌝ }
     ensures { λ x. ⌜ x ≡ words.fault (moduliFor t r) (fill s (now (word .entry))) ⌝ }
 {
-    let n = s as usize + word.len();
-    if n <= folds::ROOM6 {
+    if t <= 6 {
         let mut v = [0u8; folds::ROOM6];
         return fill::fault(t, r, s, word, &mut v);
     }
-    if n <= folds::ROOM10 {
+    if t <= 10 {
         let mut v = [0u8; folds::ROOM10];
         return fill::fault(t, r, s, word, &mut v);
     }
@@ -50,14 +48,13 @@ pub(crate) fn encode(t: u32, r: u32, s: u32, message: &[u8], out: &mut [u8])
     requires { ⌜ Fits t r s (messageOf t) (length (now message)) × (placesOf t - s ≤ length (now out)) ⌝ }
     ensures { λ x. ⌜ now (out .exit) ≡ shortenedEncode (moduliFor t r) s (now (message .entry)) ++ drop (placesOf t - s) (now (out .entry)) ⌝ }
 {
-    let n = s as usize + message.len() + t as usize;
-    if n <= folds::ROOM6 {
+    if t <= 6 {
         let mut v = [0u8; folds::ROOM6];
         let mut code = [0u8; folds::ROOM6];
         fill::encode(t, r, s, message, &mut v, &mut code, out);
         return;
     }
-    if n <= folds::ROOM10 {
+    if t <= 10 {
         let mut v = [0u8; folds::ROOM10];
         let mut code = [0u8; folds::ROOM10];
         fill::encode(t, r, s, message, &mut v, &mut code, out);
@@ -72,15 +69,14 @@ pub(crate) fn combine(t: u32, r: u32, s: u32, first: &[u8], second: &[u8], out: 
     requires { ⌜ Fits t r s (placesOf t) (length (now first)) × Fits t r s (placesOf t) (length (now second)) × (placesOf t - s ≤ length (now out)) ⌝ }
     ensures { λ x. ⌜ now (out .exit) ≡ shortenedCombine (moduliFor t r) s (now (first .entry)) (now (second .entry)) ++ drop (placesOf t - s) (now (out .entry)) ⌝ }
 {
-    let n = s as usize + first.len();
-    if n <= folds::ROOM6 {
+    if t <= 6 {
         let mut v = [0u8; folds::ROOM6];
         let mut w = [0u8; folds::ROOM6];
         let mut code = [0u8; folds::ROOM6];
         fill::combine(t, r, s, first, second, &mut v, &mut w, &mut code, out);
         return;
     }
-    if n <= folds::ROOM10 {
+    if t <= 10 {
         let mut v = [0u8; folds::ROOM10];
         let mut w = [0u8; folds::ROOM10];
         let mut code = [0u8; folds::ROOM10];
@@ -97,14 +93,13 @@ pub(crate) fn invert(t: u32, r: u32, s: u32, word: &[u8], out: &mut [u8])
     requires { ⌜ Fits t r s (placesOf t) (length (now word)) × (placesOf t - s ≤ length (now out)) ⌝ }
     ensures { λ x. ⌜ now (out .exit) ≡ shortenedInverse (moduliFor t r) s (now (word .entry)) ++ drop (placesOf t - s) (now (out .entry)) ⌝ }
 {
-    let n = s as usize + word.len();
-    if n <= folds::ROOM6 {
+    if t <= 6 {
         let mut v = [0u8; folds::ROOM6];
         let mut code = [0u8; folds::ROOM6];
         fill::invert(t, r, s, word, &mut v, &mut code, out);
         return;
     }
-    if n <= folds::ROOM10 {
+    if t <= 10 {
         let mut v = [0u8; folds::ROOM10];
         let mut code = [0u8; folds::ROOM10];
         fill::invert(t, r, s, word, &mut v, &mut code, out);

@@ -110,8 +110,8 @@ pub fn print(all: &[Figures]) {
     print_growth(all);
 }
 
-/// Whether the cost grows no faster than the length: words have four times as many places at
-/// t = 12 as at t = 10.
+/// How the cost grows with the length: words have four times as many places at t = 12 as at
+/// t = 10.
 fn print_growth(all: &[Figures]) {
     let time = |t, r| {
         let mut rows = all.iter();
@@ -120,7 +120,7 @@ fn print_growth(all: &[Figures]) {
     };
     if let (Some(short), Some(long)) = (time(10, 5), time(12, 6)) {
         println!(
-            "Encode at (12, 6) takes {:.2} times as long as at (10, 5); at most 4.5 is linear growth.",
+            "Encode at (12, 6) takes {:.2} times as long as at (10, 5), for four times the places.",
             long / short
         );
     }

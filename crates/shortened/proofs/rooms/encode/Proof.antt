@@ -1,16 +1,8 @@
--- `shortened::rooms::encode` meets its contract: each array has room for a word, the last one because no word is longer. Assumes nothing.
-use native.Mathlib.Omega.{arith}
+-- `shortened::rooms::encode` meets its contract: each array has room for a word of the codes that it is taken for. Assumes nothing.
 use borrow.Author.Needs.{needs}
-use Rattle.layout_theory.specs.Parameters.{placesOf}
-use Rattle.loops_theory.proofs.Filled.{places-room, blank}
+use Rattle.loops_theory.proofs.Filled.{blank}
 use Rattle.shortened.proofs.rooms.encode.Statement.{statement}
 use Rattle.shortened.proofs.rooms.encode.Tie as tie
-
-add-n : tie.Need-add-n
-add-n c = search needs
-
-add-n-2 : tie.Need-add-n-2
-add-n-2 c = search needs
 
 slice-aggregate-encode : tie.Need-slice-aggregate-encode
 slice-aggregate-encode c = search needs
@@ -19,12 +11,7 @@ slice-aggregate-encode-2 : tie.Need-slice-aggregate-encode-2
 slice-aggregate-encode-2 c = search needs
 
 encode-requires : tie.Need-encode-requires
-encode-requires c κs =
-    let b = c .before .before .before .before .before .before in
-    let p = b .pre in
-    let a = p .0 .all in
-    let z = blank (placesOf (b .args .t)) 64 (omega arith) in
-    (p .0, z, z .space, p .1)
+encode-requires c κs = let b = c .before .before .before .before .before .before in let p = b .pre in let z = blank 6 (b .args .t) (c .before .before .before .if1 .taken) in (p .0, z, z .space, p .1)
 
 same-length : tie.Need-same-length
 same-length c = search needs
@@ -39,12 +26,7 @@ slice-aggregate-encode-4 : tie.Need-slice-aggregate-encode-4
 slice-aggregate-encode-4 c = search needs
 
 encode-requires-2 : tie.Need-encode-requires-2
-encode-requires-2 c κs =
-    let b = c .before .before .before .before .before .before .before in
-    let p = b .pre in
-    let a = p .0 .all in
-    let z = blank (placesOf (b .args .t)) 1024 (omega arith) in
-    (p .0, z, z .space, p .1)
+encode-requires-2 c κs = let b = c .before .before .before .before .before .before .before in let p = b .pre in let z = blank 10 (b .args .t) (c .before .before .before .if2 .taken) in (p .0, z, z .space, p .1)
 
 same-length-2 : tie.Need-same-length-2
 same-length-2 c = search needs
@@ -59,13 +41,7 @@ slice-aggregate-encode-6 : tie.Need-slice-aggregate-encode-6
 slice-aggregate-encode-6 c = search needs
 
 encode-requires-3 : tie.Need-encode-requires-3
-encode-requires-3 c κs =
-    let b = c .before .before .before .before .before .before .before in
-    let p = b .pre in
-    let a = p .0 .all in
-    let q = places-room _ _ (p .0 .admitted) in
-    let z = blank (placesOf (b .args .t)) 4096 (omega arith) in
-    (p .0, z, z .space, p .1)
+encode-requires-3 c κs = let b = c .before .before .before .before .before .before .before in let p = b .pre in let z = blank 12 (b .args .t) (p .0 .admitted .most) in (p .0, z, z .space, p .1)
 
 same-length-3 : tie.Need-same-length-3
 same-length-3 c = search needs
@@ -77,8 +53,6 @@ pub encode-spec : {M : Type 1} → statement M
 encode-spec =
     tie.close
     (tie.spec
-    add-n
-    add-n-2
     slice-aggregate-encode
     slice-aggregate-encode-2
     encode-requires

@@ -1,18 +1,14 @@
--- `shortened::rooms::fault` meets its contract: each array has room for a word, the last one because no word is longer. Assumes nothing.
-use native.Mathlib.Omega.{arith}
+-- `shortened::rooms::fault` meets its contract: each array has room for a word of the codes that it is taken for. Assumes nothing.
 use borrow.Author.Needs.{needs}
-use Rattle.loops_theory.proofs.Filled.{places-room, blank}
+use Rattle.loops_theory.proofs.Filled.{blank}
 use Rattle.shortened.proofs.rooms.fault.Statement.{statement}
 use Rattle.shortened.proofs.rooms.fault.Tie as tie
-
-add-n : tie.Need-add-n
-add-n c = search needs
 
 slice-aggregate-fault : tie.Need-slice-aggregate-fault
 slice-aggregate-fault c = search needs
 
 fault-requires : tie.Need-fault-requires
-fault-requires c κs = let p = c .before .before .before .pre in let a = p .all in (p, blank _ 64 (omega arith))
+fault-requires c κs = let p = c .before .before .before .pre in (p, blank 6 _ (c .before .if1 .taken))
 
 returns : tie.Need-returns
 returns c = search needs
@@ -21,7 +17,7 @@ slice-aggregate-fault-2 : tie.Need-slice-aggregate-fault-2
 slice-aggregate-fault-2 c = search needs
 
 fault-requires-2 : tie.Need-fault-requires-2
-fault-requires-2 c κs = let p = c .before .before .before .before .pre in let a = p .all in (p, blank _ 1024 (omega arith))
+fault-requires-2 c κs = let p = c .before .before .before .before .pre in (p, blank 10 _ (c .before .if2 .taken))
 
 returns-2 : tie.Need-returns-2
 returns-2 c = search needs
@@ -30,7 +26,7 @@ slice-aggregate-fault-3 : tie.Need-slice-aggregate-fault-3
 slice-aggregate-fault-3 c = search needs
 
 fault-requires-3 : tie.Need-fault-requires-3
-fault-requires-3 c κs = let p = c .before .before .before .before .pre in let a = p .all in let q = places-room _ _ (p .admitted) in (p, blank _ 4096 (omega arith))
+fault-requires-3 c κs = let p = c .before .before .before .before .pre in (p, blank 12 _ (p .admitted .most))
 
 returns-3 : tie.Need-returns-3
 returns-3 c = search needs
@@ -39,7 +35,6 @@ pub fault-spec : {M : Type 1} → statement M
 fault-spec =
     tie.close
     (tie.spec
-    add-n
     slice-aggregate-fault
     fault-requires
     returns

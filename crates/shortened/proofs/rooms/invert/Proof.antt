@@ -1,13 +1,8 @@
--- `shortened::rooms::invert` meets its contract: each array has room for a word, the last one because no word is longer. Assumes nothing.
-use native.Mathlib.Omega.{arith}
+-- `shortened::rooms::invert` meets its contract: each array has room for a word of the codes that it is taken for. Assumes nothing.
 use borrow.Author.Needs.{needs}
-use Rattle.layout_theory.specs.Parameters.{placesOf}
-use Rattle.loops_theory.proofs.Filled.{places-room, blank}
+use Rattle.loops_theory.proofs.Filled.{blank}
 use Rattle.shortened.proofs.rooms.invert.Statement.{statement}
 use Rattle.shortened.proofs.rooms.invert.Tie as tie
-
-add-n : tie.Need-add-n
-add-n c = search needs
 
 slice-aggregate-invert : tie.Need-slice-aggregate-invert
 slice-aggregate-invert c = search needs
@@ -16,12 +11,7 @@ slice-aggregate-invert-2 : tie.Need-slice-aggregate-invert-2
 slice-aggregate-invert-2 c = search needs
 
 invert-requires : tie.Need-invert-requires
-invert-requires c κs =
-    let b = c .before .before .before .before .before .before in
-    let p = b .pre in
-    let a = p .0 .all in
-    let z = blank (placesOf (b .args .t)) 64 (omega arith) in
-    (p .0, z, z .space, p .1)
+invert-requires c κs = let b = c .before .before .before .before .before .before in let p = b .pre in let z = blank 6 (b .args .t) (c .before .before .before .if1 .taken) in (p .0, z, z .space, p .1)
 
 same-length : tie.Need-same-length
 same-length c = search needs
@@ -36,12 +26,7 @@ slice-aggregate-invert-4 : tie.Need-slice-aggregate-invert-4
 slice-aggregate-invert-4 c = search needs
 
 invert-requires-2 : tie.Need-invert-requires-2
-invert-requires-2 c κs =
-    let b = c .before .before .before .before .before .before .before in
-    let p = b .pre in
-    let a = p .0 .all in
-    let z = blank (placesOf (b .args .t)) 1024 (omega arith) in
-    (p .0, z, z .space, p .1)
+invert-requires-2 c κs = let b = c .before .before .before .before .before .before .before in let p = b .pre in let z = blank 10 (b .args .t) (c .before .before .before .if2 .taken) in (p .0, z, z .space, p .1)
 
 same-length-2 : tie.Need-same-length-2
 same-length-2 c = search needs
@@ -56,13 +41,7 @@ slice-aggregate-invert-6 : tie.Need-slice-aggregate-invert-6
 slice-aggregate-invert-6 c = search needs
 
 invert-requires-3 : tie.Need-invert-requires-3
-invert-requires-3 c κs =
-    let b = c .before .before .before .before .before .before .before in
-    let p = b .pre in
-    let a = p .0 .all in
-    let q = places-room _ _ (p .0 .admitted) in
-    let z = blank (placesOf (b .args .t)) 4096 (omega arith) in
-    (p .0, z, z .space, p .1)
+invert-requires-3 c κs = let b = c .before .before .before .before .before .before .before in let p = b .pre in let z = blank 12 (b .args .t) (p .0 .admitted .most) in (p .0, z, z .space, p .1)
 
 same-length-3 : tie.Need-same-length-3
 same-length-3 c = search needs
@@ -74,7 +53,6 @@ pub invert-spec : {M : Type 1} → statement M
 invert-spec =
     tie.close
     (tie.spec
-    add-n
     slice-aggregate-invert
     slice-aggregate-invert-2
     invert-requires
