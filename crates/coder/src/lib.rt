@@ -236,7 +236,7 @@ pub fn combine(record: Record, first: &[u8], second: &[u8], out: &mut [u8]) -> A
         let t = record.t;
         let r = record.r;
         let s = record.s;
-        shortened::combine(t, r, s, first, second, out);
+        combining::combine(t, r, s, first, second, out);
     }
     a
 }
@@ -251,7 +251,7 @@ pub fn invert(record: Record, word: &[u8], out: &mut [u8]) -> Answer
         let t = record.t;
         let r = record.r;
         let s = record.s;
-        shortened::invert(t, r, s, word, out);
+        places::invert(t, r, s, word, out);
     }
     a
 }

@@ -1,14 +1,13 @@
 // Words combined: binary places modulo 2, pairs modulo 4. Parts 1 and 3 of the layout are single
-// places, parts 2 and 4 are pairs, each with two places one after the other.
+// places, parts 2 and 4 are pairs, each with two places one after the other; of a shortened code part 1
+// is shorter, or there is none and part 2 is shorter by whole pairs.
 ghost use mathlib.Core.Path.{_≡_};
 ghost use mathlib.Core.List.{_++_};
-ghost use Prim.Native.Nat.{ℕ, _+_, _-_, _%_, _<_, _≤_};
+ghost use Prim.Native.Nat.{_+_, _-_, _%_, _≤_};
 ghost use lib.ListN.{length, drop};
 ghost use Rattle.group_theory.specs.Group.{moduli};
-ghost use Rattle.layout_theory.specs.Layout.{slots};
-ghost use Rattle.layout_theory.specs.Calls.{shapeFor};
-ghost use Rattle.words_theory.specs.Words as words;
-ghost use Rattle.loops_theory.specs.Writing.{Onward, SumsTwo, SumsFour};
+ghost use Rattle.shortened_theory.specs.Code.{shortenedCombine};
+ghost use Rattle.loops_theory.specs.Writing.{Onward, Cut, SumsTwo, SumsFour};
 use layout_theory::Shape;
 
 // The sum of two bytes modulo 2, and of two digits modulo 4; no sum of the bytes themselves wraps.
@@ -54,19 +53,27 @@ fn pairs(first: &[u8], second: &[u8], out: &mut [u8], start: usize, end: usize)
     }
 }
 
-// Writes two words combined over the front of `out`.
-pub(crate) fn combine(s: Shape, first: &[u8], second: &[u8], out: &mut [u8])
-    requires { ⌜ ((t : ℕ) × (r : ℕ) × (s ≡ shapeFor t r)) × (0 < s .places) × (s .places ≤ length (now first)) × (s .places ≤ length (now second)) × (s .places ≤ length (now out)) ⌝ }
-    ensures { λ x. ⌜ now (out .exit) ≡ words.combine (slots (moduli (s .a) (s .b))) (now (first .entry)) (now (second .entry)) ++ drop (s .places) (now (out .entry)) ⌝ }
+// n places without d of them, or none.
+fn less(n: usize, d: usize) -> usize
+    ensures { λ x. ⌜ x ≡ n - d ⌝ }
+{
+    if d < n { n - d } else { 0 }
+}
+
+// Writes two words combined over the front of `out`, of a code without its first d places.
+pub(crate) fn combine(s: Shape, d: usize, first: &[u8], second: &[u8], out: &mut [u8])
+    requires { ⌜ Cut s d × (s .places - d ≤ length (now first)) × (s .places - d ≤ length (now second)) × (s .places - d ≤ length (now out)) ⌝ }
+    ensures { λ x. ⌜ now (out .exit) ≡ shortenedCombine (moduli (s .a) (s .b)) d (now (first .entry)) (now (second .entry)) ++ drop (s .places - d) (now (out .entry)) ⌝ }
 {
     let a = s.a;
     let places = s.places as usize;
     let binary = s.binary as usize;
     let message = s.message as usize;
-    let part = binary - a;
-    let rest = message + a;
+    let part = less(binary - a, d);
+    let front = message - d;
+    let rest = message + a - d;
     singles(first, second, out, 0, part);
-    pairs(first, second, out, part, message);
-    singles(first, second, out, message, rest);
-    pairs(first, second, out, rest, places);
+    pairs(first, second, out, part, front);
+    singles(first, second, out, front, rest);
+    pairs(first, second, out, rest, places - d);
 }

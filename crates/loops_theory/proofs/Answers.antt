@@ -11,15 +11,14 @@ use lib.Seq.{drop-drop, take-append-seam, drop-append-seam}
 use Rattle.group_theory.specs.Group.{Modulus, moduli, zeros, sum, negative}
 use Rattle.layout_theory.specs.Choice.{zeroUnless, pick}
 use Rattle.layout_theory.specs.Parameters.{admits, placesOf, messageOf, moduliFor}
-use Rattle.layout_theory.specs.Layout.{units, message, slots, places}
+use Rattle.layout_theory.specs.Layout.{units, message, places}
 use Rattle.layout_theory.specs.Calls.{shapeFor}
 use Rattle.layout_theory.specs.declared.Shape.{Shape}
 use Rattle.layout_theory.proofs.Parameters.{admits-admitted, admitted-admits, below-power, Known, moduli-known, sizes-known, zeros-for}
 use Rattle.layout_theory.proofs.Sizes.{length-message}
-use Rattle.words_theory.specs.Words.{combine, inverse}
 use Rattle.words_theory.specs.Syndrome.{syndromeOver, syndrome}
 use Rattle.words_theory.specs.Coding.{checkDigits, encode}
-use Rattle.words_theory.specs.Calls.{syndromeFor, encodeFor, combineFor, invertFor}
+use Rattle.words_theory.specs.Calls.{syndromeFor, encodeFor}
 use Rattle.words_theory.proofs.Syndromes.{syndrome-split}
 use Rattle.loops_theory.specs.Spread.{HoldsMessage}
 
@@ -144,43 +143,3 @@ module _ (t r : ℕ) (m old : List ℕ) (s : Shape) where
 -- a copy to the front of an output leaves its length
 pub copied-length : (m old copied : List ℕ) → length m ≤ length old → copied ≡ m ++ drop (length m) old → length copied ≡ length old
 copied-length m old copied h e = rw (e, length-append, length-drop) (omega arith)
-
--- ---- the inverse
-module _ (t r : ℕ) (w old : List ℕ) (s : Shape) (k : Known t r s) where
-  pub invert-short : length w < s .places → old ≡ invertFor t r w old
-  unfolding invertFor
-  invert-short h = rw (too-short t r s k w h, and-false)
-
-  pub invert-narrow : length old < s .places → old ≡ invertFor t r w old
-  unfolding invertFor
-  invert-narrow h = rw (too-short t r s k old h, and-false, and-false)
-
-  -- a word and an output that are long enough
-  pub invert-whole : s .places ≤ length w → s .places ≤ length old
-      → inverse (slots (moduli (s .a) (s .b))) w ++ drop (s .places) old ≡ invertFor t r w old
-  unfolding invertFor
-  invert-whole h l =
-      rw (admitted-admits t r (k .admitted), long-enough t r s k w h, long-enough t r s k old l)
-      (over-front t r s k (λ (ms : List Modulus). inverse (slots ms) w) old)
-
--- ---- combining
-module _ (t r : ℕ) (x y old : List ℕ) (s : Shape) (k : Known t r s) where
-  pub combine-first : length x < s .places → old ≡ combineFor t r x y old
-  unfolding combineFor
-  combine-first h = rw (too-short t r s k x h, and-false)
-
-  pub combine-second : length y < s .places → old ≡ combineFor t r x y old
-  unfolding combineFor
-  combine-second h = rw (too-short t r s k y h, and-false, and-false)
-
-  pub combine-narrow : length old < s .places → old ≡ combineFor t r x y old
-  unfolding combineFor
-  combine-narrow h = rw (too-short t r s k old h, and-false, and-false, and-false)
-
-  -- two words and an output that are long enough
-  pub combine-whole : s .places ≤ length x → s .places ≤ length y → s .places ≤ length old
-      → combine (slots (moduli (s .a) (s .b))) x y ++ drop (s .places) old ≡ combineFor t r x y old
-  unfolding combineFor
-  combine-whole h m l =
-      rw (admitted-admits t r (k .admitted), long-enough t r s k x h, long-enough t r s k y m, long-enough t r s k old l)
-      (over-front t r s k (λ (ms : List Modulus). combine (slots ms) x y) old)

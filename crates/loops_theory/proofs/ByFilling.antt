@@ -3,21 +3,22 @@
 use mathlib.Core.Path.{_≡_, sym, ap, _∙_}
 use mathlib.Core.Bool.{Bool, true, false, _&&_}
 use mathlib.Core.List.{List, _++_}
-use Prim.Native.Nat.{ℕ, _-_}
+use Prim.Native.Nat.{ℕ, _-_, _≤_}
 use native.Mathlib.Omega.{arith}
 use borrow.Author.Tests.{eq-eqb, le-leb, leb-true}
 use lib.Dec.{eqb, leb}
 use lib.ListN.{length, drop}
-use Rattle.group_theory.specs.Group.{moduli, zeros}
+use Rattle.group_theory.specs.Group.{Modulus, moduli, zeros}
 use Rattle.group_theory.proofs.Signs.{both}
 use Rattle.layout_theory.specs.Parameters.{placesOf, messageOf, binaryOf, quaternaryOf, moduliFor}
-use Rattle.layout_theory.specs.Layout.{slots}
-use Rattle.layout_theory.proofs.Parameters.{admitted-admits, zeros-for}
-use Rattle.words_theory.specs.Words as words
+use Rattle.layout_theory.specs.Calls.{shapeFor}
+use Rattle.layout_theory.specs.declared.Shape.{Shape}
+use Rattle.layout_theory.proofs.Parameters.{Known, known-for, moduli-known, admitted-admits, zeros-for}
 use Rattle.words_theory.specs.Calls as calls
 use Rattle.shortened_theory.specs.Code.{fill, shortenedSyndrome, shortenedEncode, shortenedCombine, shortenedInverse}
 use Rattle.shortened_theory.specs.Calls.{allowedFor, fitsWord, fitsMessage, shortenedSyndromeFor, shortenedFaultFor, shortenedEncodeFor, shortenedCombineFor, shortenedInvertFor}
-use Rattle.shortened_theory.proofs.Guards.{word-fits, message-fits}
+use Rattle.shortened_theory.proofs.Guards.{allowed-both, word-fits, message-fits}
+use Rattle.loops_theory.specs.Writing.{Cut}
 use Rattle.loops_theory.proofs.Filled.{syndrome-filled, fault-filled}
 
 -- ---- tests
@@ -28,6 +29,14 @@ word-allowed t r s k e = both (allowedFor t r s) (eqb k (placesOf t - s)) e .0
 pub message-allowed : (t r s k : ℕ) → fitsMessage t r s k ≡ true → allowedFor t r s ≡ true
 unfolding fitsMessage
 message-allowed t r s k e = both (allowedFor t r s) (eqb k (messageOf t - s)) e .0
+
+-- what `has_room` says and, with an s that is allowed, denies
+module _ (t r s k : ℕ) (b : Bool) (e : b ≡ (allowedFor t r s && leb (placesOf t - s) k)) where
+  pub room-there : b ≡ true → leb (placesOf t - s) k ≡ true
+  room-there y = both (allowedFor t r s) (leb (placesOf t - s) k) (sym e ∙ y) .1
+
+  pub no-room : allowedFor t r s ≡ true → b ≡ false → leb (placesOf t - s) k ≡ false
+  no-room a y = sym (ap (λ (x : Bool). x && leb (placesOf t - s) k) a) ∙ sym e ∙ y
 
 -- ---- the syndrome and the place at fault
 module _ (t r s : ℕ) (w : List ℕ) (y : fitsWord t r s (length w) ≡ true) where
@@ -114,15 +123,6 @@ module _ (t r s : ℕ) (w old : List ℕ) where
       unfolding shortenedInvertFor
       invert-else = wide (fitsWord t r s (length w)) (placesOf t - s) (shortenedInverse (moduliFor t r) s w) old y e
 
-      pub invert-whole : s ≡ 0 → calls.invertFor t r w old ≡ shortenedInvertFor t r s w old
-      unfolding calls.invertFor shortenedInvertFor shortenedInverse
-      invert-whole z =
-          let f = word-fits t r s (length w) y in
-          let a = f .all in
-          let g = leb-true (placesOf t - s) (length old) e in
-          rw (admitted-admits t r (f .admitted), le-leb (placesOf t) (length w) (omega arith), le-leb (placesOf t) (length old) (omega arith))
-          (wide-zero (fitsWord t r s (length w)) (placesOf t) s (λ (k : ℕ). shortenedInverse (moduliFor t r) k w) old y e z)
-
 module _ (t r s : ℕ) (x w old : List ℕ) where
   pub combine-none : fitsWord t r s (length x) ≡ false → old ≡ shortenedCombineFor t r s x w old
   unfolding shortenedCombineFor
@@ -143,18 +143,29 @@ module _ (t r s : ℕ) (x w old : List ℕ) where
         unfolding shortenedCombineFor
         combine-else = rw (v, y, e)
 
-        pub combine-whole : s ≡ 0 → calls.combineFor t r x w old ≡ shortenedCombineFor t r s x w old
-        unfolding calls.combineFor shortenedCombine
-        combine-whole z =
-            let f = word-fits t r s (length w) y in
-            let a = f .all in
-            let b = word-fits t r s (length x) v .all in
-            let g = leb-true (placesOf t - s) (length old) e in
-            rw (
-              admitted-admits t r (f .admitted),
-              le-leb (placesOf t) (length x) (omega arith),
-              le-leb (placesOf t) (length w) (omega arith),
-              le-leb (placesOf t) (length old) (omega arith),
-            )
-            (ap (λ (k : ℕ). words.combine (slots (moduliFor t r)) x w ++ drop k old) (sym (less-none (placesOf t)))
-            ∙ ap (λ (k : ℕ). shortenedCombine (moduliFor t r) k x w ++ drop (placesOf t - k) old) (sym z) ∙ combine-else)
+-- ---- words that are worked on as they stand: the shape without its first s places
+module _ (t r s : ℕ) (h : Shape) (e : h ≡ shapeFor t r) (y : allowedFor t r s ≡ true) where
+  known-as : Known t r h
+  known-as = known-for t r h e (allowed-both t r s y .0)
+
+  pub cut-for : Cut h s
+  cut-for =
+      let al = allowed-both t r s y .1 in
+      let k = known-as in
+      let st = al .stays in
+      record {
+        code = (t, r, e);
+        some = omega (arith, k .places);
+        ends = rw (k .binary, k .a) (al .ends);
+        stays = rw (k .message) st;
+      }
+
+  pub word-enough : (k : ℕ) → fitsWord t r s k ≡ true → h .places - s ≤ k
+  word-enough k f = let a = word-fits t r s k f .all in omega (arith, known-as .places)
+
+  pub room-enough : (k : ℕ) → leb (placesOf t - s) k ≡ true → h .places - s ≤ k
+  room-enough k f = let l = leb-true (placesOf t - s) k f in omega (arith, known-as .places)
+
+  -- what is written, in the words of t and r
+  pub written-as : (new : List Modulus → List ℕ) (old : List ℕ) → new (moduli (h .a) (h .b)) ++ drop (h .places - s) old ≡ new (moduliFor t r) ++ drop (placesOf t - s) old
+  written-as new old = rw (moduli-known t r h known-as, known-as .places)

@@ -16,7 +16,6 @@ use Rattle.layout_theory.proofs.Cover.{places-append}
 use Rattle.layout_theory.proofs.Parameters.{admitted-admits, length-for}
 use Rattle.folds_theory.specs.Folds.{room}
 use Rattle.words_theory.specs.Words.{zeroWord}
-use Rattle.words_theory.specs.Words as words
 use Rattle.words_theory.specs.Syndrome.{syndromeOver}
 use Rattle.words_theory.specs.Coding.{checkDigits}
 use Rattle.words_theory.specs.Coding as coding
@@ -24,13 +23,11 @@ use Rattle.words_theory.specs.Calls as calls
 use Rattle.words_theory.specs.Claims.{messageLengthOf}
 use Rattle.words_theory.proofs.Reading.{reads-length}
 use Rattle.words_theory.proofs.Encoding.{check-reads}
-use Rattle.words_theory.proofs.OtherHalf.{length-inverse}
 use Rattle.words_theory.proofs.Theorem.{length-message-code}
-use Rattle.shortened_theory.specs.Code.{fill, shortenedSyndrome, shortenedEncode, shortenedCombine, shortenedInverse}
+use Rattle.shortened_theory.specs.Code.{fill, shortenedSyndrome, shortenedEncode}
 use Rattle.shortened_theory.specs.Calls.{Fits}
 use Rattle.shortened_theory.proofs.Filling.{length-fill}
 use Rattle.loops_theory.specs.Writing.{Blank}
-use Rattle.loops_theory.proofs.PlaceSums.{length-combine}
 
 -- ---- no word of a code is longer than there is room for
 places-within : (k t : ℕ) → t ≤ k → placesOf t ≤ 2 ^ k
@@ -137,28 +134,3 @@ module _ (t r s n : ℕ) (ok : Admitted t r) (is : n ≡ placesOf t) (few : s �
       handed-on (coding.encode (moduliFor t r) (fill s m))
       (length-encode (moduliFor t r) (fill s m) (k ∙ sym (length-message-code t r ok)) ∙ length-for t r ok)
       (e ∙ rw (admitted-admits t r ok, eq-eqb (length (fill s m)) (messageOf t) k, le-leb (placesOf t) (length z) enough))
-
-  -- both are filled in arrays, of which the first i bytes and the first j are the words
-  pub combine-handed : (x y whole second : List ℕ) (i j : ℕ) → Fits t r s (placesOf t) (length x) → Fits t r s (placesOf t) (length y) → i ≡ j
-      → code ≡ calls.combineFor t r whole (take i second) z → whole ≡ fill s x → take j second ≡ fill s y → new ≡ shortenedCombine (moduliFor t r) s x y ++ drop (placesOf t - s) out
-  unfolding shortenedCombine calls.combineFor
-  combine-handed x y whole second i j f g q d a b =
-      let e : code ≡ calls.combineFor t r (fill s x) (fill s y) z =
-      d ∙ ap₂ (λ (u v : List ℕ). calls.combineFor t r u v z) a (ap (λ (k : ℕ). take k second) q ∙ b) in
-      handed-on (words.combine (slots (moduliFor t r)) (fill s x) (fill s y))
-      (length-combine (moduliFor t r) (slots (moduliFor t r)) (fill s x) (fill s y) ∙ length-for t r ok)
-      (e ∙ rw (
-        admitted-admits t r ok,
-        le-leb (placesOf t) (length (fill s x)) (long t r s x f),
-        le-leb (placesOf t) (length (fill s y)) (long t r s y g),
-        le-leb (placesOf t) (length z) enough,
-      ))
-
-  pub invert-handed : (w whole : List ℕ) → Fits t r s (placesOf t) (length w)
-      → code ≡ calls.invertFor t r whole z → whole ≡ fill s w → new ≡ shortenedInverse (moduliFor t r) s w ++ drop (placesOf t - s) out
-  unfolding shortenedInverse calls.invertFor
-  invert-handed w whole f d g =
-      let e : code ≡ calls.invertFor t r (fill s w) z = d ∙ ap (λ (x : List ℕ). calls.invertFor t r x z) g in
-      handed-on (words.inverse (slots (moduliFor t r)) (fill s w))
-      (length-inverse (moduliFor t r) (slots (moduliFor t r)) (fill s w) ∙ length-for t r ok)
-      (e ∙ rw (admitted-admits t r ok, le-leb (placesOf t) (length (fill s w)) (long t r s w f), le-leb (placesOf t) (length z) enough))

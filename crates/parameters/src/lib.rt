@@ -1,14 +1,15 @@
 // The parameters: whether t and r are admitted, r = t for an r given as 0, whether s is allowed with t
-// and r, the numbers of their code, and whether a number is a place. What the first four answer is
-// defined in crate layout_theory, specs/Parameters.antt and Calls.antt, and in crate shortened_theory,
-// specs/Calls.antt.
+// and r, the numbers of their code, whether so many bytes are a word or a message or have room for one,
+// and whether a number is a place. What these answer is defined in crate layout_theory,
+// specs/Parameters.antt and Calls.antt, and in crate shortened_theory, specs/Calls.antt.
 ghost use mathlib.Core.Path.{_≡_};
 ghost use mathlib.Core.Bool.{_&&_};
 ghost use lib.Dec.{leb, ltb};
-ghost use Rattle.layout_theory.specs.Parameters.{admits};
+ghost use Prim.Native.Nat.{_-_};
+ghost use Rattle.layout_theory.specs.Parameters.{admits, placesOf};
 ghost use Rattle.layout_theory.specs.Calls.{orHamming, shapeFor};
 ghost use Rattle.shortened_theory.specs.Allowed.{endsWhole};
-ghost use Rattle.shortened_theory.specs.Calls.{allowedFor};
+ghost use Rattle.shortened_theory.specs.Calls.{allowedFor, fitsWord, fitsMessage};
 pub use layout_theory::Shape;
 
 // The largest t in use.
@@ -86,6 +87,38 @@ fn ends(part: u32, message: u32, s: u32) -> bool
     }
     if (s - part) % 2 == 0 {
         return s < message;
+    }
+    false
+}
+
+// Whether so many bytes are those of a word of the shortened code, and of a message.
+pub fn fits_word(t: u32, r: u32, s: u32, count: usize) -> bool
+    ensures { λ x. ⌜ x ≡ fitsWord t r s count ⌝ }
+{
+    if allowed(t, r, s) {
+        let h = shape_of(t, r);
+        return count == (h.places - s) as usize;
+    }
+    false
+}
+
+pub fn fits_message(t: u32, r: u32, s: u32, count: usize) -> bool
+    ensures { λ x. ⌜ x ≡ fitsMessage t r s count ⌝ }
+{
+    if allowed(t, r, s) {
+        let h = shape_of(t, r);
+        return count == (h.message - s) as usize;
+    }
+    false
+}
+
+// Whether s is allowed and an output has room for a word.
+pub fn has_room(t: u32, r: u32, s: u32, room: usize) -> bool
+    ensures { λ x. ⌜ x ≡ (allowedFor t r s && leb (placesOf t - s) room) ⌝ }
+{
+    if allowed(t, r, s) {
+        let h = shape_of(t, r);
+        return (h.places - s) as usize <= room;
     }
     false
 }

@@ -1,13 +1,15 @@
 // Places of a word: which one is at fault, whether it is binary or of a pair, and the third place of two;
-// and the inverse of a word, which swaps the two places of each pair. Every input is answered: 0, or
-// nothing written, where t and r are not admitted, a place is none of the code's, or a word or an output
-// is too short. What each function answers is defined in crate words_theory, specs/Calls.antt.
+// and the inverse of a word, which swaps the two places of each pair, with s. Every input is answered: 0,
+// or nothing written, where t and r are not admitted, s is not allowed, a place is none of the code's, or a
+// word or an output is too short. What each function answers is defined in crates words_theory and
+// shortened_theory, specs/Calls.antt.
 mod halves;
 mod ones;
 mod place;
 
 ghost use mathlib.Core.Path.{_≡_};
-ghost use Rattle.words_theory.specs.Calls.{faultFor, widthFor, invertFor, thirdFor};
+ghost use Rattle.words_theory.specs.Calls.{faultFor, widthFor, thirdFor};
+ghost use Rattle.shortened_theory.specs.Calls.{shortenedInvertFor};
 
 // The place at fault, told from the syndrome: for a word of bits, the one that correction changes; 0
 // for a codeword, and where t and r are not admitted or the word is shorter.
@@ -38,22 +40,17 @@ pub fn width(t: u32, r: u32, place: u32) -> u32
     0
 }
 
-// The inverse of a word, its first n bytes, written to the first n bytes of `out`.
-pub fn invert(t: u32, r: u32, word: &[u8], out: &mut [u8])
-    ensures { λ x. ⌜ now (out .exit) ≡ invertFor t r (now (word .entry)) (now (out .entry)) ⌝ }
+// The inverse of a word of a code, shortened by s, at the front of an output.
+pub fn invert(t: u32, r: u32, s: u32, word: &[u8], out: &mut [u8])
+    ensures { λ x. ⌜ now (out .exit) ≡ shortenedInvertFor t r s (now (word .entry)) (now (out .entry)) ⌝ }
 {
-    let s = parameters::shape_of(t, r);
-    let n = s.places as usize;
-    if n == 0 {
-        return;
+    if parameters::fits_word(t, r, s, word.len()) {
+        if parameters::has_room(t, r, s, out.len()) {
+            let h = parameters::shape_of(t, r);
+            halves::swap(h, s as usize, word, out);
+            return;
+        }
     }
-    if word.len() < n {
-        return;
-    }
-    if out.len() < n {
-        return;
-    }
-    halves::swap(s, word, out);
 }
 
 // The place that makes a codeword of weight 3 with the places i and j; 0 where they are not two places

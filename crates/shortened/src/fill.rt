@@ -8,7 +8,7 @@ ghost use Prim.Native.Nat.{_+_, _-_, _≤_};
 ghost use lib.ListN.{length, take, drop};
 ghost use Rattle.layout_theory.specs.Parameters.{placesOf, messageOf, moduliFor};
 ghost use Rattle.words_theory.specs.Calls as words;
-ghost use Rattle.shortened_theory.specs.Code.{fill, shortenedSyndrome, shortenedEncode, shortenedCombine, shortenedInverse};
+ghost use Rattle.shortened_theory.specs.Code.{fill, shortenedSyndrome, shortenedEncode};
 ghost use Rattle.shortened_theory.specs.Calls.{Fits};
 ghost use Rattle.loops_theory.specs.Writing.{Blank};
 use group::Element;
@@ -45,20 +45,6 @@ fn whole_encode(t: u32, r: u32, whole: &[u8], n: usize, out: &mut [u8])
     ensures { λ x. ⌜ now (out .exit) ≡ words.encodeFor t r (take n (now (whole .entry))) (now (out .entry)) ⌝ }
 {
     coding::encode(t, r, &whole[..n], out)
-}
-
-fn whole_combine(t: u32, r: u32, x: &[u8], y: &[u8], n: usize, out: &mut [u8])
-    requires { ⌜ (n ≤ length (now x)) × (n ≤ length (now y)) ⌝ }
-    ensures { λ z. ⌜ now (out .exit) ≡ words.combineFor t r (take n (now (x .entry))) (take n (now (y .entry))) (now (out .entry)) ⌝ }
-{
-    combining::combine(t, r, &x[..n], &y[..n], out)
-}
-
-fn whole_invert(t: u32, r: u32, whole: &[u8], n: usize, out: &mut [u8])
-    requires { ⌜ n ≤ length (now whole) ⌝ }
-    ensures { λ x. ⌜ now (out .exit) ≡ words.invertFor t r (take n (now (whole .entry))) (now (out .entry)) ⌝ }
-{
-    places::invert(t, r, &whole[..n], out)
 }
 
 // Copies the bytes from index s up to n to the front of an output.
@@ -108,46 +94,5 @@ pub(crate) fn encode(
     let front = k + message.len();
     put(k, message, v);
     whole_encode(t, r, v, front, code);
-    deliver(code, k, n, out);
-}
-
-pub(crate) fn combine(
-    t: u32,
-    r: u32,
-    s: u32,
-    first: &[u8],
-    second: &[u8],
-    v: &mut [u8],
-    w: &mut [u8],
-    code: &mut [u8],
-    out: &mut [u8],
-)
-    requires { ⌜ Fits t r s (placesOf t) (length (now first)) × Fits t r s (placesOf t) (length (now second)) × Blank (placesOf t) (now v) × Blank (placesOf t) (now w) × (placesOf t ≤ length (now code)) × (placesOf t - s ≤ length (now out)) ⌝ }
-    ensures { λ z. ⌜ now (out .exit) ≡ shortenedCombine (moduliFor t r) s (now (first .entry)) (now (second .entry)) ++ drop (placesOf t - s) (now (out .entry)) ⌝ }
-{
-    let k = s as usize;
-    let n = k + first.len();
-    put(k, first, v);
-    put(k, second, w);
-    whole_combine(t, r, v, w, n, code);
-    deliver(code, k, n, out);
-}
-
-pub(crate) fn invert(
-    t: u32,
-    r: u32,
-    s: u32,
-    word: &[u8],
-    v: &mut [u8],
-    code: &mut [u8],
-    out: &mut [u8],
-)
-    requires { ⌜ Fits t r s (placesOf t) (length (now word)) × Blank (placesOf t) (now v) × (placesOf t ≤ length (now code)) × (placesOf t - s ≤ length (now out)) ⌝ }
-    ensures { λ x. ⌜ now (out .exit) ≡ shortenedInverse (moduliFor t r) s (now (word .entry)) ++ drop (placesOf t - s) (now (out .entry)) ⌝ }
-{
-    let k = s as usize;
-    let n = k + word.len();
-    put(k, word, v);
-    whole_invert(t, r, v, n, code);
     deliver(code, k, n, out);
 }

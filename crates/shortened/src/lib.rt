@@ -1,19 +1,16 @@
 // Shortened codes, with no record (request C-17): the first s places of a message are fixed at 0 and
 // left out. Every input is answered; nothing is done where t and r are not admitted, s is not allowed,
 // a word or a message is not of its length, or an output is too short (crate shortened_theory,
-// specs/Calls.antt). With s = 0 the work is done on the caller's own bytes, by the crates that know
-// nothing of s; else by the same on the word filled with s zeros (fill.rt), in arrays as long as the code
-// needs (rooms.rt).
+// specs/Calls.antt). What sums over a word, syndrome, place at fault and encoding, is done with s = 0 on
+// the caller's own bytes, by the crates that know nothing of s; else by the same on the word filled with
+// s zeros (fill.rt), in arrays as long as the code needs (rooms.rt). Combining and inverse need no filled
+// word: crates combining and places do them with s.
 mod fill;
 mod rooms;
 
 ghost use mathlib.Core.Path.{_≡_};
-ghost use mathlib.Core.Bool.{true};
-ghost use Prim.Native.Nat.{_-_};
-ghost use lib.Dec.{leb};
-ghost use Rattle.layout_theory.specs.Parameters.{placesOf};
 ghost use Rattle.shortened_theory.specs.Code.{isLeftOut};
-ghost use Rattle.shortened_theory.specs.Calls.{allowedFor, fitsWord, fitsMessage, shortenedSyndromeFor, shortenedFaultFor, shortenedEncodeFor, shortenedCombineFor, shortenedInvertFor, shortenedWidthFor, shortenedThirdFor};
+ghost use Rattle.shortened_theory.specs.Calls.{shortenedSyndromeFor, shortenedFaultFor, shortenedEncodeFor, shortenedWidthFor, shortenedThirdFor};
 use group::Element;
 
 // Whether a place, by the number that it had before renumbering, is one of the s that are left out.
@@ -23,41 +20,11 @@ pub fn is_left_out(s: u32, place: u32) -> bool
     if place == 0 { false } else { place <= s }
 }
 
-// Whether so many bytes are those of a word, and of a message.
-fn fits_word(t: u32, r: u32, s: u32, count: usize) -> bool
-    ensures { λ x. ⌜ x ≡ fitsWord t r s count ⌝ }
-{
-    if parameters::allowed(t, r, s) {
-        let h = parameters::shape_of(t, r);
-        return count == (h.places - s) as usize;
-    }
-    false
-}
-
-fn fits_message(t: u32, r: u32, s: u32, count: usize) -> bool
-    ensures { λ x. ⌜ x ≡ fitsMessage t r s count ⌝ }
-{
-    if parameters::allowed(t, r, s) {
-        let h = parameters::shape_of(t, r);
-        return count == (h.message - s) as usize;
-    }
-    false
-}
-
-// Whether an output has room for a word, where s is allowed.
-fn has_room(t: u32, r: u32, s: u32, room: usize) -> bool
-    requires { ⌜ allowedFor t r s ≡ true ⌝ }
-    ensures { λ x. ⌜ x ≡ leb (placesOf t - s) room ⌝ }
-{
-    let h = parameters::shape_of(t, r);
-    (h.places - s) as usize <= room
-}
-
 // The syndrome of a word; zero where it is none of the code.
 pub fn syndrome(t: u32, r: u32, s: u32, word: &[u8]) -> Element
     ensures { λ x. ⌜ x ≡ shortenedSyndromeFor t r s (now (word .entry)) ⌝ }
 {
-    if fits_word(t, r, s, word.len()) {
+    if parameters::fits_word(t, r, s, word.len()) {
         if s == 0 {
             return coding::syndrome(t, r, word);
         }
@@ -71,7 +38,7 @@ pub fn syndrome(t: u32, r: u32, s: u32, word: &[u8]) -> Element
 pub fn fault(t: u32, r: u32, s: u32, word: &[u8]) -> u32
     ensures { λ x. ⌜ x ≡ shortenedFaultFor t r s (now (word .entry)) ⌝ }
 {
-    if fits_word(t, r, s, word.len()) {
+    if parameters::fits_word(t, r, s, word.len()) {
         if s == 0 {
             return places::fault(t, r, word);
         }
@@ -84,47 +51,13 @@ pub fn fault(t: u32, r: u32, s: u32, word: &[u8]) -> u32
 pub fn encode(t: u32, r: u32, s: u32, message: &[u8], out: &mut [u8])
     ensures { λ x. ⌜ now (out .exit) ≡ shortenedEncodeFor t r s (now (message .entry)) (now (out .entry)) ⌝ }
 {
-    if fits_message(t, r, s, message.len()) {
-        if has_room(t, r, s, out.len()) {
+    if parameters::fits_message(t, r, s, message.len()) {
+        if parameters::has_room(t, r, s, out.len()) {
             if s == 0 {
                 coding::encode(t, r, message, out);
                 return;
             }
             rooms::encode(t, r, s, message, out);
-            return;
-        }
-    }
-}
-
-// Two words combined, at the front of an output.
-pub fn combine(t: u32, r: u32, s: u32, first: &[u8], second: &[u8], out: &mut [u8])
-    ensures { λ x. ⌜ now (out .exit) ≡ shortenedCombineFor t r s (now (first .entry)) (now (second .entry)) (now (out .entry)) ⌝ }
-{
-    if fits_word(t, r, s, first.len()) {
-        if fits_word(t, r, s, second.len()) {
-            if has_room(t, r, s, out.len()) {
-                if s == 0 {
-                    combining::combine(t, r, first, second, out);
-                    return;
-                }
-                rooms::combine(t, r, s, first, second, out);
-                return;
-            }
-        }
-    }
-}
-
-// The inverse of a word, at the front of an output.
-pub fn invert(t: u32, r: u32, s: u32, word: &[u8], out: &mut [u8])
-    ensures { λ x. ⌜ now (out .exit) ≡ shortenedInvertFor t r s (now (word .entry)) (now (out .entry)) ⌝ }
-{
-    if fits_word(t, r, s, word.len()) {
-        if has_room(t, r, s, out.len()) {
-            if s == 0 {
-                places::invert(t, r, word, out);
-                return;
-            }
-            rooms::invert(t, r, s, word, out);
             return;
         }
     }

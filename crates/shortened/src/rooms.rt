@@ -7,7 +7,7 @@ ghost use Prim.Native.Nat.{_-_, _≤_};
 ghost use lib.ListN.{length, drop};
 ghost use Rattle.layout_theory.specs.Parameters.{placesOf, messageOf, moduliFor};
 ghost use Rattle.words_theory.specs.Calls as words;
-ghost use Rattle.shortened_theory.specs.Code.{fill, shortenedSyndrome, shortenedEncode, shortenedCombine, shortenedInverse};
+ghost use Rattle.shortened_theory.specs.Code.{fill, shortenedSyndrome, shortenedEncode};
 ghost use Rattle.shortened_theory.specs.Calls.{Fits};
 use crate::fill;
 use group::Element;
@@ -63,49 +63,4 @@ pub(crate) fn encode(t: u32, r: u32, s: u32, message: &[u8], out: &mut [u8])
     let mut v = [0u8; folds::ROOM12];
     let mut code = [0u8; folds::ROOM12];
     fill::encode(t, r, s, message, &mut v, &mut code, out);
-}
-
-pub(crate) fn combine(t: u32, r: u32, s: u32, first: &[u8], second: &[u8], out: &mut [u8])
-    requires { ⌜ Fits t r s (placesOf t) (length (now first)) × Fits t r s (placesOf t) (length (now second)) × (placesOf t - s ≤ length (now out)) ⌝ }
-    ensures { λ x. ⌜ now (out .exit) ≡ shortenedCombine (moduliFor t r) s (now (first .entry)) (now (second .entry)) ++ drop (placesOf t - s) (now (out .entry)) ⌝ }
-{
-    if t <= 6 {
-        let mut v = [0u8; folds::ROOM6];
-        let mut w = [0u8; folds::ROOM6];
-        let mut code = [0u8; folds::ROOM6];
-        fill::combine(t, r, s, first, second, &mut v, &mut w, &mut code, out);
-        return;
-    }
-    if t <= 10 {
-        let mut v = [0u8; folds::ROOM10];
-        let mut w = [0u8; folds::ROOM10];
-        let mut code = [0u8; folds::ROOM10];
-        fill::combine(t, r, s, first, second, &mut v, &mut w, &mut code, out);
-        return;
-    }
-    let mut v = [0u8; folds::ROOM12];
-    let mut w = [0u8; folds::ROOM12];
-    let mut code = [0u8; folds::ROOM12];
-    fill::combine(t, r, s, first, second, &mut v, &mut w, &mut code, out);
-}
-
-pub(crate) fn invert(t: u32, r: u32, s: u32, word: &[u8], out: &mut [u8])
-    requires { ⌜ Fits t r s (placesOf t) (length (now word)) × (placesOf t - s ≤ length (now out)) ⌝ }
-    ensures { λ x. ⌜ now (out .exit) ≡ shortenedInverse (moduliFor t r) s (now (word .entry)) ++ drop (placesOf t - s) (now (out .entry)) ⌝ }
-{
-    if t <= 6 {
-        let mut v = [0u8; folds::ROOM6];
-        let mut code = [0u8; folds::ROOM6];
-        fill::invert(t, r, s, word, &mut v, &mut code, out);
-        return;
-    }
-    if t <= 10 {
-        let mut v = [0u8; folds::ROOM10];
-        let mut code = [0u8; folds::ROOM10];
-        fill::invert(t, r, s, word, &mut v, &mut code, out);
-        return;
-    }
-    let mut v = [0u8; folds::ROOM12];
-    let mut code = [0u8; folds::ROOM12];
-    fill::invert(t, r, s, word, &mut v, &mut code, out);
 }

@@ -1,5 +1,5 @@
--- What the functions of crates coding, combining and places answer, for any t and r and any bytes: they do nothing where t and r are not admitted, a message is
--- not of its length, or a word or an output is too short. Assumes nothing.
+-- What the functions of crates coding and places that know no s answer, for any t and r and any bytes: they do nothing where t and r are not
+-- admitted, a message is not of its length, or a word or an output is too short. Assumes nothing.
 use mathlib.Core.Bool.{Bool, _&&_, not}
 use mathlib.Core.Logic.{_≢_}
 use mathlib.Core.List.{List, _++_}
@@ -10,7 +10,7 @@ use Rattle.group_theory.specs.Group.{Modulus, zeros, negative}
 use Rattle.layout_theory.specs.Choice.{pick}
 use Rattle.layout_theory.specs.Parameters.{Admitted, admits, placesOf, messageOf, moduliFor}
 use Rattle.layout_theory.specs.Layout.{slots, placeOf}
-use Rattle.words_theory.specs.Words.{flip, combine, inverse}
+use Rattle.words_theory.specs.Words.{flip}
 use Rattle.words_theory.specs.Syndrome.{syndrome}
 use Rattle.words_theory.specs.Halves.{width, moved}
 use Rattle.words_theory.specs.Coding.{encode, third}
@@ -27,10 +27,6 @@ unfoldable pub encodeFor : ℕ → ℕ → List ℕ → List ℕ → List ℕ
 encodeFor t r m old =
     written (admits t r && (eqb (length m) (messageOf t) && leb (placesOf t) (length old))) (placesOf t) (encode (moduliFor t r) m) old
 
-unfoldable pub invertFor : ℕ → ℕ → List ℕ → List ℕ → List ℕ
-invertFor t r w old =
-    written (admits t r && (leb (placesOf t) (length w) && leb (placesOf t) (length old))) (placesOf t) (inverse (slots (moduliFor t r)) w) old
-
 -- the place at fault: that of minus the syndrome, moved to the other half of its pair where the word differs on the two; 0 where the syndrome
 -- is zero. For a word of bits it is the place that correction changes (`corrected-place` in proofs/Rule).
 abbrev pub fault : List Modulus → List ℕ → ℕ
@@ -46,14 +42,6 @@ flipFor w p old = written (leb (length w) (length old)) (length w) (flip p w) ol
 -- 1 for a binary place, 2 for a place of a pair, or 0
 unfoldable pub widthFor : ℕ → ℕ → ℕ → ℕ
 widthFor t r p = pick (admits t r) (width (slots (moduliFor t r)) p) 0
-
-unfoldable pub combineFor : ℕ → ℕ → List ℕ → List ℕ → List ℕ → List ℕ
-combineFor t r x y old =
-    written
-    (admits t r && (leb (placesOf t) (length x) && (leb (placesOf t) (length y) && leb (placesOf t) (length old))))
-    (placesOf t)
-    (combine (slots (moduliFor t r)) x y)
-    old
 
 -- whether p is a place of the code
 abbrev pub isPlace : ℕ → ℕ → Bool

@@ -9,7 +9,7 @@ use borrow.Author.Needs.{needs}
 use Rattle.layout_theory.specs.Parameters.{placesOf}
 use Rattle.shortened_theory.specs.Calls.{fitsMessage}
 use Rattle.shortened_theory.proofs.Guards.{message-fits}
-use Rattle.loops_theory.proofs.ByFilling.{encode-whole, encode-else, encode-none, encode-narrow, message-allowed}
+use Rattle.loops_theory.proofs.ByFilling.{encode-whole, encode-else, encode-none, encode-narrow, message-allowed, room-there, no-room}
 use Rattle.shortened.proofs.encode.Statement.{statement}
 use Rattle.shortened.proofs.encode.Tie as tie
 
@@ -27,10 +27,10 @@ ok : (c : tie.Then1) → let g = c .before .before .before .before .args in fits
 ok c = sym (c .before .fits-message .ensures) ∙ c .if1 .taken
 
 has-room-requires : tie.Need-has-room-requires
-has-room-requires c κs = message-allowed _ _ _ _ (ok c)
+has-room-requires c κs = search needs
 
 wide : (c : tie.Then2) → let g = c .before .before .before .before .before .before .args in leb (placesOf (g .t) - g .s) (length (g .out .now)) ≡ true
-wide c = sym (c .before .has-room .ensures) ∙ c .if2 .taken
+wide c = room-there _ _ _ _ _ (c .before .has-room .ensures) (c .if2 .taken)
 
 returns : tie.Need-returns
 returns c =
@@ -49,7 +49,9 @@ returns-2 c =
     c .before .before .encode2 .ensures ∙ encode-else _ _ _ _ _ (ok (q .before .before .before)) (wide (q .before))
 
 returns-3 : tie.Need-returns-3
-returns-3 c = encode-narrow _ _ _ _ _ (ok (c .before .before)) (sym (c .before .has-room .ensures) ∙ c .if2 .left)
+returns-3 c =
+    let y = ok (c .before .before) in
+    encode-narrow _ _ _ _ _ y (no-room _ _ _ _ _ (c .before .has-room .ensures) (message-allowed _ _ _ _ y) (c .if2 .left))
 
 returns-4 : tie.Need-returns-4
 returns-4 c = encode-none _ _ _ _ _ (sym (c .before .fits-message .ensures) ∙ c .if1 .left)

@@ -1,11 +1,11 @@
--- `shortened::fits_word` meets its contract. Assumes nothing.
+-- `parameters::fits_word` meets its contract. Assumes nothing.
 use mathlib.Core.Bool.{true}
 use mathlib.Core.Path.{_≡_, sym, _∙_}
 use borrow.Author.Needs.{needs}
 use Rattle.shortened_theory.specs.Calls.{allowedFor, fitsWord}
 use Rattle.shortened_theory.proofs.Guards.{still, places-are}
-use Rattle.shortened.proofs.fits_word.Statement.{statement}
-use Rattle.shortened.proofs.fits_word.Tie as tie
+use Rattle.parameters.proofs.fits_word.Statement.{statement}
+use Rattle.parameters.proofs.fits_word.Tie as tie
 
 allowed-requires : tie.Need-allowed-requires
 allowed-requires c κs = search needs
