@@ -1,5 +1,5 @@
--- What the functions of shortened answer, by their tests: with s = 0 what the whole code does, else what it does with the filled word.
--- Assumes nothing.
+-- What the functions that know s answer, by their tests: with s = 0 what the whole code does, else what it does with the filled word, or what
+-- is done with the shape without its first s places. Assumes nothing.
 use mathlib.Core.Path.{_≡_, sym, ap, _∙_}
 use mathlib.Core.Bool.{Bool, true, false, _&&_}
 use mathlib.Core.List.{List, _++_}

@@ -89,9 +89,8 @@ module _ (x y old r : List ℕ) (start i : ℕ) (h : start ≤ i) where
 next : (from i : ℕ) → from ≤ i → (i - from) % 2 ≡ 0 → from + swapped (i - from) ≡ i + 1
 next from i h e = omega arith
 
--- ---- the layout of a shape without its first d places: loops over binary places, pairs, binary places and pairs, each from where the last one
--- ended, write the whole
--- where the pairs begin, no pair is cut
+-- ---- where the four loops end, in a code without its first d places
+-- an index that leads a pair of what is left leads one of the whole
 even-from : (part d i : ℕ) → EndsWhole part d → part - d ≤ i → (i - (part - d)) % 2 ≡ 0 → (part ≤ d + i) × ((d + i - part) % 2 ≡ 0)
 even-from part d i (inl h) k e = let z : d + i - part ≡ i - (part - d) = omega arith in (omega arith, ap (λ (n : ℕ). n % 2) z ∙ e)
 even-from part d i (inr h) k e =
@@ -99,6 +98,7 @@ even-from part d i (inr h) k e =
     let y = h .1 in
     (omega arith, omega arith)
 
+-- what is left of the message's pairs are pairs
 even-between : (part d m : ℕ) → EndsWhole part d → d ≤ m → part ≤ m → (m - part) % 2 ≡ 0 → (part - d ≤ m - d) × ((m - d - (part - d)) % 2 ≡ 0)
 even-between part d m (inl h) l k e = let z : m - d - (part - d) ≡ m - part = omega arith in (omega arith, ap (λ (n : ℕ). n % 2) z ∙ e)
 even-between part d m (inr h) l k e =
@@ -106,15 +106,15 @@ even-between part d m (inr h) l k e =
     let y = h .1 in
     (omega arith, omega arith)
 
--- what the four loops ask: where each of them ends, and that pairs are whole
-pub record Ends (d p m r n : ℕ) : Type 0 where
+-- the loops end at p, m, r and n, and pairs are whole
+pub record Ends (p m r n : ℕ) : Type 0 where
   pub one : p ≤ m
   pub two : m ≤ r
   pub three : r ≤ n
   pub message : (m - p) % 2 ≡ 0
   pub check : (n - r) % 2 ≡ 0
 
-pub ends-at : (s : Shape) (d p : ℕ) → Cut s d → p ≡ s .binary - s .a - d → Ends d p (s .message - d) (s .message + s .a - d) (s .places - d)
+pub ends-at : (s : Shape) (d p : ℕ) → Cut s d → p ≡ s .binary - s .a - d → Ends p (s .message - d) (s .message + s .a - d) (s .places - d)
 ends-at s d p c e =
     let z = sizes s (c .code) (c .some) in
     let st = c .stays in
@@ -131,8 +131,8 @@ ends-at s d p c e =
     double : (n : ℕ) → (2 * n) % 2 ≡ 0
     double n = omega arith
 
--- the bounds of each loop, in words and an output that are long enough
-module _ {d p m r n f g o : ℕ} (e : Ends d p m r n) (x : n ≤ f) (y : n ≤ g) (z : n ≤ o) where
+-- what each loop asks, of words and an output that are long enough
+module _ {p m r n f g o : ℕ} (e : Ends p m r n) (x : n ≤ f) (y : n ≤ g) (z : n ≤ o) where
   pub first-asks : (0 ≤ p) × (p ≤ f) × (p ≤ g) × (p ≤ o)
   first-asks = (omega arith, omega arith, omega arith, omega arith)
 
@@ -145,6 +145,7 @@ module _ {d p m r n f g o : ℕ} (e : Ends d p m r n) (x : n ≤ f) (y : n ≤ g
   pub fourth-asks : (r ≤ n) × ((n - r) % 2 ≡ 0) × (n ≤ f) × (n ≤ g) × (n ≤ o)
   fourth-asks = (e .three, e .check, x, y, z)
 
+-- ---- loops over binary places, pairs, binary places and pairs, each from where the last one ended, write the whole
 module _ (s : Shape) (d : ℕ) (c : Cut s d) (x y : List ℕ) where
   abbrev ms : List Modulus
   ms = moduli (s .a) (s .b)

@@ -14,7 +14,7 @@ numbers q = sizes (q .args .s) (q .pre .0 .code) (q .pre .0 .some)
 
 ended : (c : tie.After-less)
     → let s = c .before .before .before .before .before .before .before .args .s in let d = c .before .before .before .before .before .before .before .args .d in
-    Ends d (c .less .result) (s .message - d) (s .message + s .a - d) (s .places - d)
+    Ends (c .less .result) (s .message - d) (s .message + s .a - d) (s .places - d)
 ended c = let q = c .before .before .before .before .before .before .before in ends-at (q .args .s) (q .args .d) _ (q .pre .0) (c .less .ensures)
 
 cast-places : tie.Need-cast-places
