@@ -13,10 +13,11 @@ MANIFEST := --offline --release --manifest-path host/rust/Cargo.toml
 # $(call need,TOOL,TARGET) ends with one clear line where the tool is missing
 need = @command -v $(1) >/dev/null || { echo "make $(2) needs $(1) on the PATH" >&2; exit 2; }
 
-.PHONY: all library example check check-c check-rust check-cases check-sheet expected compare fuzz bench install uninstall clean help FORCE
+.PHONY: all library example check check-c check-rust check-cases check-sheet expected compare fuzz bench bench-passes install uninstall clean help FORCE
 all: library example
 
-# `make LIBRARY=path/to/libz2z4.a ..` takes a library that is there already: nothing is proved, and rt is not needed.
+# `make LIBRARY=path/to/libz2z4.a ..` takes a library that is there already: nothing is proved, and rt is not needed;
+# the Rust tests and the benchmarks need libtimed.a too, which TIMED=path/to/libtimed.a gives them.
 ifeq ($(origin LIBRARY),command line)
 $(LIBRARY):
 	@echo "there is no library $@" >&2; exit 2
@@ -29,11 +30,25 @@ $(LIBRARY): FORCE
 endif
 library: $(LIBRARY)
 
-# what the tests link: a copy that is renewed where the library differs, so that none runs with another one
+# the two corrections that bench-passes times, after the library, so that rt proves one thing at a time
+ifeq ($(origin TIMED),command line)
+$(TIMED):
+	@echo "there is no library $@" >&2; exit 2
+else
+TIMED := target/staticlib/libtimed.a
+$(TIMED): FORCE | $(LIBRARY)
+	$(call need,rt,bench-passes)
+	rt staticlib timed
+endif
+
+# what the tests link: copies that are renewed where a library differs, so that none runs with another one
 LINKED := $(OUT)/lib/libz2z4.a
+LINKED_TIMED := $(OUT)/lib/libtimed.a
+renew = @mkdir -p $(OUT)/lib; cmp -s $(1) $@ || cp $(1) $@
 $(LINKED): $(LIBRARY) FORCE
-	@mkdir -p $(OUT)/lib
-	@cmp -s $(LIBRARY) $@ || cp $(LIBRARY) $@
+	$(call renew,$(LIBRARY))
+$(LINKED_TIMED): $(TIMED) FORCE
+	$(call renew,$(TIMED))
 
 help:
 	@echo "library         prove the crates and write target/staticlib/libz2z4.a (LIBRARY=path: take that one instead)"
@@ -45,6 +60,7 @@ help:
 	@echo "compare         compare with the second program, CALLS=$(CALLS)"
 	@echo "fuzz            fuzz against the second program for SECONDS=$(SECONDS)"
 	@echo "bench           time the library, the second program and the program by tables; the plot goes to PLOT=$(PLOT)"
+	@echo "bench-passes    compare and time correction and the call as it was before request C-14"
 	@echo "install         to PREFIX=$(PREFIX), under DESTDIR; uninstall takes it away"
 	@echo "clean           remove target/host"
 
@@ -89,8 +105,8 @@ check-c: $(OUT)/example $(OUT)/calls_test $(OUT)/table_test $(OUT)/long_test $(O
 	else echo "check: no valgrind on the PATH, that run is left out"; fi; \
 	test $$ran = yes || { echo "make check needs valgrind or the sanitizers of $(CC)" >&2; exit 2; }
 
-# the benchmark, which is tested too, has copies of the library, and objcopy (binutils) names their calls
-check-rust: $(LINKED)
+# the benchmarks, which are tested too, have copies of the libraries, and objcopy (binutils) names their calls
+check-rust: $(LINKED) $(LINKED_TIMED)
 	$(call need,cargo,check)
 	$(call need,objcopy,check)
 	+$(CARGO) test $(MANIFEST)
@@ -124,11 +140,14 @@ compare: $(LINKED)
 	$(call need,cargo,compare)
 	+$(CARGO) run $(MANIFEST) -p compare -- --calls $(CALLS)
 
-bench: $(LINKED)
-	$(call need,cargo,bench)
-	$(call need,$(CC),bench)
-	$(call need,objcopy,bench)
-	+$(CARGO) run $(MANIFEST) -p bench -- --plot "$(PLOT)"
+# one crate has both benchmarks, so its build asks for both libraries
+bench bench-passes: $(LINKED) $(LINKED_TIMED)
+	$(call need,cargo,$@)
+	$(call need,$(CC),$@)
+	$(call need,objcopy,$@)
+	+$(CARGO) run $(MANIFEST) -p bench $(BENCH)
+bench: BENCH = --bin bench -- --plot "$(PLOT)"
+bench-passes: BENCH = --bin passes
 
 # libFuzzer is guided by the branches of the second program, which is built for it with counters of them; 1,100 bytes
 # give each place of two words of 4,095 places, and some more

@@ -1,16 +1,18 @@
 // The calls of document 01 on a record. Every input is answered. A refusal is a number; 0 says that the
 // call is accepted. What each call answers is defined in crate coder_theory, specs/Calls.antt; the
 // theorems on these answers, demand 3 among them, are there too. What is wrong with a call is found by
-// crate checks; count.rt counts; the work on plain words of the shortened code is done by crates
-// shortened, combining and places, a correction's flip by crate coding.
+// crate checks; count.rt counts; the work on plain words of the shortened code is done by crates coding (the pass
+// over a received word, encoding, a correction's flip), combining, places and shortened.
 mod count;
+mod reading;
 
 ghost use mathlib.Core.Path.{_≡_};
 ghost use denote.Ref.{ptr};
 ghost use Rattle.shortened_theory.specs.Code.{newPlace};
-ghost use Rattle.shortened_theory.specs.Calls.{shortenedFaultFor};
-ghost use Rattle.coder_theory.specs.State.{fresh};
-ghost use Rattle.coder_theory.specs.Calls.{inForce, refusedOpening, refusedElement, opened, elementAnswer, wordLength, messageLength, syndromeAnswer, codewordAnswer, shown};
+ghost use Rattle.shortened_theory.specs.Calls.{shortenedSyndromeFor, faultAtFor};
+ghost use Rattle.coder_theory.specs.State.{fresh, placesIn};
+ghost use Rattle.coder_theory.specs.Reasons.{firstReason};
+ghost use Rattle.coder_theory.specs.Calls.{answerOf, writeReasons, inForce, refusedOpening, refusedElement, opened, elementAnswer, wordLength, messageLength, syndromeAnswer, codewordAnswer, shown};
 ghost use Rattle.coder_theory.specs.Calls.{encodeAnswer, encodeOutput, correctAnswer, correctOutput, combineAnswer, combineOutput, invertAnswer, invertOutput, thirdAnswer};
 use checks::check;
 use checks::fit;
@@ -20,6 +22,8 @@ pub use coder_theory::ElementAnswer;
 pub use coder_theory::Opened;
 pub use coder_theory::Record;
 pub use coder_theory::TestAnswer;
+use group::Element;
+use reading::Received;
 
 // A record for the code with t and r, shortened by s; r = 0 means the smallest admitted r, half of t
 // rounded up. Refused with 1 where t and r are not admitted, and with 10 where s is not allowed.
@@ -88,7 +92,7 @@ pub fn message_length(record: Record) -> u32
 pub fn syndrome(record: Record, word: &[u8]) -> ElementAnswer
     ensures { λ x. ⌜ x ≡ syndromeAnswer «record» (now (word .entry)) ⌝ }
 {
-    let a = check::word(record, word);
+    let a = received(record, word, word.len());
     let refusal = a.refusal;
     let place = a.place;
     if refusal != 0 {
@@ -98,11 +102,8 @@ pub fn syndrome(record: Record, word: &[u8]) -> ElementAnswer
             element: 0,
         };
     }
-    let t = record.t;
-    let r = record.r;
-    let s = record.s;
-    let e = shortened::syndrome(t, r, s, word);
-    let shape = parameters::shape_of(t, r);
+    let e = a.syndrome;
+    let shape = parameters::shape_of(record.t, record.r);
     ElementAnswer {
         refusal,
         place,
@@ -114,7 +115,7 @@ pub fn syndrome(record: Record, word: &[u8]) -> ElementAnswer
 pub fn is_codeword(record: Record, word: &[u8]) -> TestAnswer
     ensures { λ x. ⌜ x ≡ codewordAnswer «record» (now (word .entry)) ⌝ }
 {
-    let a = check::word(record, word);
+    let a = received(record, word, word.len());
     let refusal = a.refusal;
     let place = a.place;
     if refusal != 0 {
@@ -124,14 +125,11 @@ pub fn is_codeword(record: Record, word: &[u8]) -> TestAnswer
             yes: false,
         };
     }
-    let t = record.t;
-    let r = record.r;
-    let s = record.s;
-    let sum = shortened::syndrome(t, r, s, word);
+    let e = a.syndrome;
     TestAnswer {
         refusal,
         place,
-        yes: group::is_zero(sum),
+        yes: group::is_zero(e),
     }
 }
 
@@ -162,14 +160,27 @@ pub fn encode(record: Record, message: &[u8], out: &mut [u8]) -> Answer
     ensures bytes { λ x. ⌜ now (out .exit) ≡ encodeOutput «record» (now (message .entry)) (now (out .entry)) ⌝ }
 {
     let size = fit::lengths(record);
-    let a = check::output(record, size.message, message, size.places, out.len());
-    if a.refusal == 0 {
-        let t = record.t;
-        let r = record.r;
-        let s = record.s;
-        shortened::encode(t, r, s, message, out);
+    let x = check::sizes(record, size.message, message, size.places, out.len());
+    if x != 0 {
+        return Answer {
+            refusal: x,
+            place: 0,
+        };
     }
-    a
+    let t = record.t;
+    let r = record.r;
+    let s = record.s;
+    let p = coding::encode(t, r, s, message, out);
+    if p != 0 {
+        return Answer {
+            refusal: 4,
+            place: p,
+        };
+    }
+    Answer {
+        refusal: 0,
+        place: p,
+    }
 }
 
 // The codeword that differs from a word in at most one place, at the front of `out`, and that place.
@@ -178,7 +189,7 @@ pub fn correct(record: Record, word: &[u8], out: &mut [u8]) -> Corrected
     ensures answer { λ x. ⌜ x ≡ correctAnswer «record» (now (word .entry)) (now (out .entry)) ⌝ }
     ensures bytes { λ x. ⌜ now (out .exit) ≡ correctOutput «record» (now (word .entry)) (now (out .entry)) ⌝ }
 {
-    let a = check::written(record, word, out.len());
+    let a = received(record, word, out.len());
     let refusal = a.refusal;
     if refusal != 0 {
         return Corrected {
@@ -187,7 +198,8 @@ pub fn correct(record: Record, word: &[u8], out: &mut [u8]) -> Corrected
             record,
         };
     }
-    let q = fault(record, word);
+    let e = a.syndrome;
+    let q = fault(record, e, word);
     let x = check::correction(record, q);
     if x != 0 {
         return Corrected {
@@ -205,14 +217,51 @@ pub fn correct(record: Record, word: &[u8], out: &mut [u8]) -> Corrected
     }
 }
 
-// The place at fault in a word of the record's code, by its number before renumbering.
-fn fault(record: Record, word: &[u8]) -> u32
-    ensures { λ x. ⌜ x ≡ shortenedFaultFor («record» .t) («record» .r) («record» .s) (now (word .entry)) ⌝ }
+// Reads a word of the record's code in one pass, after all that is asked before its bytes: 21, 22, 10, 2 and
+// 3, where an output has `room` bytes, then 4, or the syndrome.
+fn received(record: Record, word: &[u8], room: usize) -> Received
+    ensures answer { λ x. ⌜ record { refusal = x .refusal; place = x .place } ≡ answerOf (firstReason (writeReasons «record» (placesIn «record») (now (word .entry)) room)) ⌝ }
+    ensures sum { λ x. ⌜ (x .refusal ≡ 0 → x .syndrome ≡ shortenedSyndromeFor («record» .t) («record» .r) («record» .s) (now (word .entry))) ⌝ }
+{
+    let size = fit::lengths(record);
+    let n = size.places;
+    let x = check::sizes(record, n, word, n, room);
+    if x != 0 {
+        return Received {
+            refusal: x,
+            place: 0,
+            syndrome: group::zero(0, 0),
+        };
+    }
+    let t = record.t;
+    let r = record.r;
+    let s = record.s;
+    let w = coding::scan(t, r, s, word);
+    let bad = w.bad;
+    let e = w.syndrome;
+    if bad != 0 {
+        return Received {
+            refusal: 4,
+            place: bad,
+            syndrome: e,
+        };
+    }
+    Received {
+        refusal: 0,
+        place: bad,
+        syndrome: e,
+    }
+}
+
+// The place at fault in a word of the record's code that has the syndrome e, by its number before
+// renumbering.
+fn fault(record: Record, e: Element, word: &[u8]) -> u32
+    ensures { λ x. ⌜ x ≡ faultAtFor («record» .t) («record» .r) («record» .s) e (now (word .entry)) ⌝ }
 {
     let t = record.t;
     let r = record.r;
     let s = record.s;
-    shortened::fault(t, r, s, word)
+    places::fault(t, r, s, e, word)
 }
 
 // A place, renumbered.

@@ -23,7 +23,7 @@ use Rattle.coder_theory.specs.declared.Record.{Record}
 use Rattle.coder_theory.proofs.Refusals.{left-applies}
 use Rattle.coder_theory.proofs.Firsts.{NoneApplies, first-yes, first-no, first-past, none-first, none-append}
 use Rattle.coder_theory.proofs.States.{usable-true}
-use Rattle.coder_theory.proofs.Bytes.{bits-none}
+use Rattle.words_theory.proofs.Bad.{bits-none}
 use Rattle.coder_theory.proofs.Told.{read-shows}
 
 -- ---- the reasons that a word of n bits rules out

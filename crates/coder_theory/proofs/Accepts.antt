@@ -24,7 +24,7 @@ use Rattle.coder_theory.specs.declared.TestAnswer.{TestAnswer}
 use Rattle.coder_theory.specs.declared.Corrected.{Corrected}
 use Rattle.coder_theory.proofs.Firsts.{NoneApplies, accepted-none}
 use Rattle.coder_theory.proofs.States.{true-usable}
-use Rattle.coder_theory.proofs.Bytes.{none-bits}
+use Rattle.words_theory.proofs.Bad.{none-bits}
 use Rattle.coder_theory.proofs.Answers.{element-refusal}
 use Rattle.coder_theory.proofs.Outcomes.{inside-by, right-length}
 use Rattle.coder_theory.proofs.Corrections.{correct-accepted, nearest-in}

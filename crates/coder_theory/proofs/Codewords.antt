@@ -25,7 +25,7 @@ use Rattle.coder_theory.specs.declared.Record.{Record}
 use Rattle.coder_theory.specs.declared.TestAnswer.{TestAnswer}
 use Rattle.coder_theory.proofs.Firsts.{accepted-none}
 use Rattle.coder_theory.proofs.States.{filled-in}
-use Rattle.coder_theory.proofs.Bytes.{none-bits}
+use Rattle.words_theory.proofs.Bad.{none-bits}
 use Rattle.coder_theory.proofs.Outcomes.{says-yes, shown-no}
 use Rattle.coder_theory.proofs.Accepted.{codeword-accepts, reading-accepts}
 

@@ -1,7 +1,7 @@
 -- What correction answers, leaves and counts, by the first reason that applies; what its proof cites. Assumes nothing.
 use mathlib.Core.Path.{_≡_, refl, sym, ap, ap₂, _∙_}
 use mathlib.Core.Logic.{_≢_}
-use mathlib.Core.Bool.{true, false, _&&_, true≢false}
+use mathlib.Core.Bool.{Bool, true, false, _&&_, true≢false}
 use mathlib.Core.List.{List, [], _∷_, _++_}
 use Prim.Native.Nat.{ℕ, _+_, _-_, _≤_}
 use native.Mathlib.Omega.{arith}
@@ -14,8 +14,8 @@ use Rattle.words_theory.specs.Words.{Word}
 use Rattle.words_theory.specs.Calls.{flipFor}
 use Rattle.words_theory.proofs.Reading.{word-reads}
 use Rattle.words_theory.proofs.Rule.{corrected-place}
-use Rattle.shortened_theory.specs.Code.{fill, LeftOut, isLeftOut, shortenedWidth, correctedOldPlace, shortenedCorrectedPlace}
-use Rattle.shortened_theory.specs.Calls.{shortenedFaultFor, shortenedWidthFor}
+use Rattle.shortened_theory.specs.Code.{fill, LeftOut, isLeftOut, shortenedSyndrome, shortenedWidth, correctedOldPlace, shortenedCorrectedPlace}
+use Rattle.shortened_theory.specs.Calls.{fitsWord, shortenedSyndromeFor, faultAtFor, shortenedFaultFor, shortenedWidthFor}
 use Rattle.shortened_theory.specs.Claims.{NearestTo}
 use Rattle.shortened_theory.proofs.Guards.{fits-word, both-allowed}
 use Rattle.coder_theory.specs.State.{Usable, moduliIn, placesIn, correctedIn, correctedPlaceIn, correctedOldPlaceIn, fullCount, isBinaryIn, isPairedIn, counted, FallsOut}
@@ -25,7 +25,7 @@ use Rattle.coder_theory.specs.declared.Record.{Record}
 use Rattle.coder_theory.specs.declared.Answer.{Answer}
 use Rattle.coder_theory.proofs.Firsts.{NoneApplies, first-before, first-past, accepted-none, no-place}
 use Rattle.coder_theory.proofs.States.{true-usable, code-in, filled-in}
-use Rattle.coder_theory.proofs.Bytes.{none-bits}
+use Rattle.words_theory.proofs.Bad.{none-bits}
 use Rattle.coder_theory.proofs.Outcomes.{if-refused, right-length, fitted}
 use Rattle.coder_theory.proofs.Outputs.{kept}
 
@@ -73,6 +73,15 @@ plain-fault rec w f h =
     let v = filled-in rec f h in
     rw (fits-word (rec .t) (rec .r) (rec .s) (length w) (fitted rec (length w) f (h .places)))
     (sym (corrected-place ms (fill (rec .s) w) (word-reads ms v)))
+
+-- told from the word's syndrome it is the same
+pub fault-from : (t r s : ℕ) (w : List ℕ) → faultAtFor t r s (shortenedSyndromeFor t r s w) w ≡ shortenedFaultFor t r s w
+unfolding faultAtFor shortenedFaultFor shortenedSyndromeFor shortenedSyndrome
+fault-from t r s w = go (fitsWord t r s (length w)) refl
+  where
+    go : (b : Bool) → fitsWord t r s (length w) ≡ b → faultAtFor t r s (shortenedSyndromeFor t r s w) w ≡ shortenedFaultFor t r s w
+    go true y = rw y
+    go false y = rw y
 
 -- and flipped at its own place, where that is not left out, the word is corrected
 pub plain-flip : (rec : Record) (w out : List ℕ) → Usable rec → Word (placesIn rec) w → placesIn rec ≤ length out → (FallsOut rec w → ⊥)

@@ -37,6 +37,14 @@ first-before (x ∷ xs) ys h = go (first-before xs ys) (x .applies) refl
     go f false y =
         first-no x (xs ++ ys) y ∙ f (λ z. h (ap (λ (x : Reason). x .number) (first-no x xs y) ∙ z)) ∙ sym (first-no x xs y)
 
+pub first-after : (xs ys zs : List Reason) → firstReason ys ≡ firstReason zs → firstReason (xs ++ ys) ≡ firstReason (xs ++ zs)
+first-after [] ys zs e = e
+first-after (x ∷ xs) ys zs e = go (first-after xs ys zs e) (x .applies) refl
+  where
+    go : firstReason (xs ++ ys) ≡ firstReason (xs ++ zs) → (b : Bool) → x .applies ≡ b → firstReason (x ∷ (xs ++ ys)) ≡ firstReason (x ∷ (xs ++ zs))
+    go f true y = first-yes x (xs ++ ys) y ∙ sym (first-yes x (xs ++ zs) y)
+    go f false y = first-no x (xs ++ ys) y ∙ f ∙ sym (first-no x (xs ++ zs) y)
+
 pub first-past : (xs ys : List Reason) → NoneApplies xs → firstReason (xs ++ ys) ≡ firstReason ys
 first-past [] ys h = refl
 first-past (x ∷ xs) ys h = first-no x (xs ++ ys) (h .0) ∙ first-past xs ys (h .1)

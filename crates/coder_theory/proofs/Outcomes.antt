@@ -5,7 +5,7 @@ use mathlib.Core.List.{List, [], _∷_, _++_}
 use mathlib.Core.Bool.{Bool, true, false, _||_, not, false≢true}
 use Prim.Native.Nat.{ℕ, zero, suc, _-_, _≤_}
 use native.Mathlib.Omega.{arith}
-use borrow.Author.Tests.{eqb-true, eq-eqb, ne-eqb, le-leb, ltb-false, eqb-false, not-false}
+use borrow.Author.Tests.{eqb-true, eq-eqb, ne-eqb, le-leb, le-ltb, ltb-false, eqb-false, not-false}
 use lib.Dec.{eqb, ltb}
 use lib.ListN.{length, take}
 use Rattle.group_theory.specs.Group.{number, moduli}
@@ -26,7 +26,7 @@ use Rattle.coder_theory.specs.declared.Record.{Record}
 use Rattle.coder_theory.specs.declared.Size.{Size}
 use Rattle.coder_theory.specs.declared.Answer.{Answer}
 use Rattle.coder_theory.specs.declared.TestAnswer.{TestAnswer}
-use Rattle.coder_theory.proofs.Firsts.{first-yes, first-no, first-end, first-before, first-past, accepted-none, no-place}
+use Rattle.coder_theory.proofs.Firsts.{Placeless, numbered, first-yes, first-no, first-end, first-before, first-after, first-past, accepted-none, no-place}
 use Rattle.coder_theory.proofs.States.{Clear, state-number, state-clear, usable-true, true-usable, or-false}
 use Rattle.coder_theory.proofs.Answers.{usable-length}
 
@@ -70,11 +70,37 @@ module _ (rec : Record) (s : Size) (e : (s .places ≡ wordLength rec) × (s .me
           let h : firstReason (stateReasons rec) .number ≢ 0 = λ y. let c : suc n ≡ 0 = sym z ∙ y in omega arith in
           state-number rec (rs (s .places) (s .message)) h ∙ sym (state-number rec (rs (placesIn rec) (messageIn rec)) h)
 
-  -- a call with no output asks no room
-  pub word-by : (w : List ℕ)
-      → firstReason (stateReasons rec ++ (wrongLength (s .places) w ∷ shortOutput 0 0 ∷ badByte w ∷ [])) ≡ firstReason (wordReasons rec w)
-  unfolding firstReason
-  word-by w = by-lengths (λ n m. wrongLength n w ∷ badByte w ∷ [])
+-- a call with no output asks for no more room than the word has
+pub word-room : (rec : Record) (w : List ℕ) → firstReason (writeReasons rec (placesIn rec) w (length w)) ≡ firstReason (wordReasons rec w)
+word-room rec w = first-after (stateReasons rec) _ _ (go (eqb (length w) (placesIn rec)) refl)
+  where
+    n : ℕ
+    n = placesIn rec
+
+    go : (b : Bool) → eqb (length w) n ≡ b → firstReason (wrongLength n w ∷ shortOutput n (length w) ∷ badByte w ∷ []) ≡ firstReason (wrongLength n w ∷ badByte w ∷ [])
+    go true e =
+        let l = eqb-true (length w) n e in
+        first-no (wrongLength n w) _ (ap not e) ∙ first-no (shortOutput n (length w)) _ (le-ltb (length w) n (omega arith)) ∙ sym (first-no (wrongLength n w) _ (ap not e))
+    go false e = first-yes (wrongLength n w) _ (ap not e) ∙ sym (first-yes (wrongLength n w) _ (ap not e))
+
+-- ---- 4 comes last, by the place that a pass found
+module _ (early : List Reason) (quiet : Placeless early) (some : numbered early ≡ true) (w : List ℕ) (x : ℕ) (e : x ≡ firstReason early .number) where
+  pub byte-stopped : x ≢ 0 → record { refusal = x; place = 0 } ≡ answerOf (firstReason (early ++ (badByte w ∷ [])))
+  byte-stopped h =
+      ap₂ {C = Answer} (λ (n p : ℕ). record { refusal = n; place = p }) e (sym (no-place early quiet))
+      ∙ sym (ap answerOf (first-before early (badByte w ∷ []) (λ z. h (e ∙ z))))
+
+  module _ (z : x ≡ 0) (p : ℕ) (f : p ≡ badPlace w) where
+    last : firstReason (early ++ (badByte w ∷ [])) ≡ firstReason (badByte w ∷ [])
+    last = first-past early (badByte w ∷ []) (accepted-none early some (sym e ∙ z))
+
+    pub byte-refused : p ≢ 0 → record { refusal = 4; place = p } ≡ answerOf (firstReason (early ++ (badByte w ∷ [])))
+    byte-refused h = byte-bad w p f h [] ∙ sym (ap answerOf last)
+
+    pub byte-accepted : p ≡ 0 → record { refusal = 0; place = p } ≡ answerOf (firstReason (early ++ (badByte w ∷ [])))
+    byte-accepted h =
+        ap {B = Answer} (λ (p : ℕ). record { refusal = 0; place = p }) h
+        ∙ sym (ap answerOf (last ∙ first-no (badByte w) [] (byte-good w p f h) ∙ first-end))
 
 -- ---- what an accepted call on a word knows, and what the functions on plain words then answer
 pub right-length : (n : ℕ) (w : List ℕ) → wrongLength n w .applies ≡ false → length w ≡ n

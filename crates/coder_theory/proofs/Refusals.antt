@@ -26,7 +26,7 @@ use Rattle.coder_theory.specs.declared.Record.{Record}
 use Rattle.coder_theory.specs.declared.Opened.{Opened}
 use Rattle.coder_theory.proofs.States.{or-either, or-left, or-right, usable-true}
 use Rattle.coder_theory.proofs.Corrections.{left-false, left-true}
-use Rattle.coder_theory.proofs.Bytes.{bits-none, none-bits}
+use Rattle.words_theory.proofs.Bad.{bits-none, none-bits}
 use Rattle.coder_theory.proofs.Outcomes.{if-refused}
 use Rattle.coder_theory.proofs.Outputs.{encode-kept, combine-kept, invert-kept}
 use Rattle.coder_theory.proofs.Answers.{opened-yes, opened-not-allowed, opened-no, element-inside, outside-yes}

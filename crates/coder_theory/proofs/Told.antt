@@ -17,7 +17,8 @@ use Rattle.coder_theory.specs.Calls.{correctReasons, correctAnswer, comb
 use Rattle.coder_theory.specs.Demand1.{Lowest, TellsPlace, TellsPlaceOfTwo}
 use Rattle.coder_theory.specs.declared.Record.{Record}
 use Rattle.coder_theory.proofs.Firsts.{NoneApplies, AllTell, no-place, none-accepted, first-tells}
-use Rattle.coder_theory.proofs.Bytes.{none-bits, lowest}
+use Rattle.words_theory.proofs.Bad.{none-bits}
+use Rattle.coder_theory.proofs.Bytes.{lowest}
 use Rattle.coder_theory.proofs.Outcomes.{if-refused, word-accepted, shown-codeword}
 
 -- ---- the place: a reason other than 4 tells 0, and 4 the lowest place

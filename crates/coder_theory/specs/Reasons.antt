@@ -2,11 +2,11 @@
 -- whether it applies. Assumes nothing.
 use mathlib.Core.Bool.{Bool, true, false, _||_, not}
 use mathlib.Core.List.{List, [], _∷_}
-use Prim.Native.Nat.{ℕ, suc}
+use Prim.Native.Nat.{ℕ}
 use lib.Dec.{eqb, ltb}
 use lib.ListN.{length}
-use Rattle.layout_theory.specs.Choice.{pick}
 use Rattle.layout_theory.specs.Parameters.{admits}
+use Rattle.words_theory.specs.Calls.{badFrom}
 use Rattle.shortened_theory.specs.Allowed.{allows}
 use Rattle.shortened_theory.specs.Code.{isLeftOut}
 use Rattle.coder_theory.specs.State.{isClosed, isUnfit, placesIn, fullCount}
@@ -41,11 +41,6 @@ wrongLength n w = because 2 (not (eqb (length w) n))
 -- "3. An output buffer shorter than needed.": n bytes are needed, and it has as many as room says
 abbrev pub shortOutput : ℕ → ℕ → Reason
 shortOutput n room = because 3 (ltb room n)
-
--- the first place, counted from p, of a byte above 1, or 0
-unfoldable pub badFrom : ℕ → List ℕ → ℕ
-badFrom p [] = 0
-badFrom p (b ∷ w) = pick (ltb 1 b) p (badFrom (suc p) w)
 
 -- "the lowest such place", and "Places count from 1"
 abbrev pub badPlace : List ℕ → ℕ

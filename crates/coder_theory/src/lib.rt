@@ -1,9 +1,10 @@
 // Theory of the calls on a record: their answers and refusals, and the three demands. The records
-// that calls take and give are declared here. Definitions are in specs/, theorems in proofs/; there
-// is no function here.
+// that calls take and give are declared here; two of them as C lays them out, for crate timed hands them to
+// it. Definitions are in specs/, theorems in proofs/; there is no function here.
 
 // Which code it is, of which s places are left out, how many corrections were accepted, and what they
 // came to. The last two counts are what document 01 calls "mended binary" and "mended in pairs".
+#[repr(C)]
 pub struct Record {
     pub t: u32,
     pub r: u32,
@@ -40,6 +41,7 @@ pub struct TestAnswer {
 }
 
 // What correction answers: the place that it changed, 0 for none, and the record with its counts.
+#[repr(C)]
 pub struct Corrected {
     pub refusal: u32,
     pub place: u32,

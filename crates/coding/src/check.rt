@@ -8,29 +8,42 @@ ghost use Rattle.group_theory.specs.Group.{moduli};
 ghost use Rattle.layout_theory.specs.Layout.{units};
 ghost use Rattle.words_theory.specs.Syndrome.{syndromeOver};
 ghost use Rattle.words_theory.specs.Coding.{checkDigits};
+ghost use Rattle.loops_theory.specs.Passing.{Tells};
+use crate::bits;
+use crate::part::Part;
 use group::Element;
 
-// The sum of the check places from an index of the word on: the element with these digits.
-pub(crate) fn read(a: usize, b: usize, word: &[u8], start: usize) -> Element
+// The check places from an index of the word on: their sum is the element with these digits.
+pub(crate) fn read(a: usize, b: usize, word: &[u8], start: usize) -> Part
     requires { ⌜ (a + b ≤ 12) × (start + (a + 2 * b) ≤ length (now word)) ⌝ }
-    ensures { λ r. ⌜ r ≡ syndromeOver (moduli a b) (units (moduli a b)) (drop start (now (word .entry))) ⌝ }
+    ensures told { λ r. ⌜ Tells (r .good) (now (word .entry)) start (start + (a + 2 * b)) ⌝ }
+    ensures sum { λ r. ⌜ r .sum ≡ syndromeOver (moduli a b) (units (moduli a b)) (drop start (now (word .entry))) ⌝ }
 {
     let mut e = [0u8; 12];
+    let mut most: u8 = 0;
     let mut at = start;
     let mut i: usize = 0;
     while i < 12 {
         if i < a {
-            e[i] = word[at] % 2;
+            let x = word[at];
+            e[i] = x % 2;
+            most = bits::larger(most, x);
             at += 1;
         } else if i - a < b {
-            e[i] = gray::digit(word[at], word[at + 1]);
+            let x = word[at];
+            let y = word[at + 1];
+            e[i] = gray::digit(x, y);
+            most = bits::larger(bits::larger(most, x), y);
             at += 2;
         } else {
             e[i] = 0;
         }
         i += 1;
     }
-    e
+    Part {
+        good: most <= 1,
+        sum: e,
+    }
 }
 
 // Writes the check digits of an element from an index on.

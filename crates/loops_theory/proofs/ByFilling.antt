@@ -1,11 +1,11 @@
--- What the functions that know s answer, by their tests: with s = 0 what the whole code does, else what it does with the filled word, or what
--- is done with the shape without its first s places. Assumes nothing.
-use mathlib.Core.Path.{_≡_, sym, ap, _∙_}
+-- What the functions that know s answer, by their tests, and what is done with the shape of a code without its first s places. Assumes nothing.
+use mathlib.Core.Path.{_≡_, refl, sym, ap, _∙_}
+use mathlib.Core.Logic.{_≢_}
 use mathlib.Core.Bool.{Bool, true, false, _&&_}
 use mathlib.Core.List.{List, _++_}
 use Prim.Native.Nat.{ℕ, _-_, _≤_}
 use native.Mathlib.Omega.{arith}
-use borrow.Author.Tests.{eq-eqb, le-leb, leb-true}
+use borrow.Author.Tests.{ne-eqb, leb-true}
 use lib.Dec.{eqb, leb}
 use lib.ListN.{length, drop}
 use Rattle.group_theory.specs.Group.{Modulus, moduli, zeros}
@@ -13,13 +13,14 @@ use Rattle.group_theory.proofs.Signs.{both}
 use Rattle.layout_theory.specs.Parameters.{placesOf, messageOf, binaryOf, quaternaryOf, moduliFor}
 use Rattle.layout_theory.specs.Calls.{shapeFor}
 use Rattle.layout_theory.specs.declared.Shape.{Shape}
-use Rattle.layout_theory.proofs.Parameters.{Known, known-for, moduli-known, admitted-admits, zeros-for}
+use Rattle.layout_theory.proofs.Parameters.{Known, known-for, moduli-known, zeros-for}
 use Rattle.words_theory.specs.Calls as calls
+use Rattle.words_theory.specs.Calls.{badFrom}
 use Rattle.shortened_theory.specs.Code.{fill, shortenedSyndrome, shortenedEncode, shortenedCombine, shortenedInverse}
-use Rattle.shortened_theory.specs.Calls.{allowedFor, fitsWord, fitsMessage, shortenedSyndromeFor, shortenedFaultFor, shortenedEncodeFor, shortenedCombineFor, shortenedInvertFor}
-use Rattle.shortened_theory.proofs.Guards.{allowed-both, word-fits, message-fits}
+use Rattle.shortened_theory.specs.Calls.{allowedFor, fitsWord, fitsMessage, scannedFor, faultAtFor, encodeBadFor}
+use Rattle.shortened_theory.specs.Calls.{shortenedSyndromeFor, shortenedEncodeFor, shortenedCombineFor, shortenedInvertFor}
+use Rattle.shortened_theory.proofs.Guards.{allowed-both, word-fits}
 use Rattle.loops_theory.specs.Writing.{Cut}
-use Rattle.loops_theory.proofs.Filled.{syndrome-filled, fault-filled}
 
 -- ---- tests
 pub word-allowed : (t r s k : ℕ) → fitsWord t r s k ≡ true → allowedFor t r s ≡ true
@@ -38,34 +39,43 @@ module _ (t r s k : ℕ) (b : Bool) (e : b ≡ (allowedFor t r s && leb (placesO
   pub no-room : allowedFor t r s ≡ true → b ≡ false → leb (placesOf t - s) k ≡ false
   no-room a y = sym (ap (λ (x : Bool). x && leb (placesOf t - s) k) a) ∙ sym e ∙ y
 
--- ---- the syndrome and the place at fault
-module _ (t r s : ℕ) (w : List ℕ) (y : fitsWord t r s (length w) ≡ true) where
-  pub syndrome-else : shortenedSyndrome (moduliFor t r) s w ≡ shortenedSyndromeFor t r s w
+-- ---- the place at fault in a word of syndrome e
+pub fault-at : (t r s : ℕ) (e w : List ℕ) → fitsWord t r s (length w) ≡ true → calls.faultAt (moduliFor t r) e (fill s w) ≡ faultAtFor t r s e w
+unfolding faultAtFor
+fault-at t r s e w y = rw y
+
+pub fault-at-none : (t r s : ℕ) (e w : List ℕ) → fitsWord t r s (length w) ≡ false → 0 ≡ faultAtFor t r s e w
+unfolding faultAtFor
+fault-at-none t r s e w y = rw y
+
+-- ---- the pass over a word
+module _ (t r s : ℕ) (w : List ℕ) where
+  syndrome-none : fitsWord t r s (length w) ≡ false → zeros (moduli 0 0) ≡ shortenedSyndromeFor t r s w
   unfolding shortenedSyndromeFor
-  syndrome-else = rw y
+  syndrome-none y = rw y (zeros-for 0 0 (binaryOf t r) (quaternaryOf t r))
 
-  pub syndrome-whole : s ≡ 0 → calls.syndromeFor t r w ≡ shortenedSyndromeFor t r s w
-  syndrome-whole e = ap (λ (k : ℕ). calls.syndromeFor t r (fill k w)) (sym e) ∙ syndrome-filled t r s w (word-fits t r s (length w) y) ∙ syndrome-else
+  syndrome-fits : fitsWord t r s (length w) ≡ true → shortenedSyndrome (moduliFor t r) s w ≡ shortenedSyndromeFor t r s w
+  unfolding shortenedSyndromeFor
+  syndrome-fits y = rw y
 
-  pub fault-else : calls.fault (moduliFor t r) (fill s w) ≡ shortenedFaultFor t r s w
-  unfolding shortenedFaultFor
-  fault-else = rw y
+  pub scan-none : fitsWord t r s (length w) ≡ false → record { bad = 0; syndrome = zeros (moduli 0 0) } ≡ scannedFor t r s w
+  unfolding scannedFor
+  scan-none y = go (eqb (badFrom 1 w) 0) refl
+    where
+      go : (b : Bool) → eqb (badFrom 1 w) 0 ≡ b → record { bad = 0; syndrome = zeros (moduli 0 0) } ≡ scannedFor t r s w
+      go true e = rw (y, e, ← syndrome-none y)
+      go false e = rw (y, e, zeros-for 0 0 (binaryOf t r) (quaternaryOf t r))
 
-  pub fault-whole : s ≡ 0 → calls.faultFor t r w ≡ shortenedFaultFor t r s w
-  fault-whole e = ap (λ (k : ℕ). calls.faultFor t r (fill k w)) (sym e) ∙ fault-filled t r s w (word-fits t r s (length w) y) ∙ fault-else
+  module _ (y : fitsWord t r s (length w) ≡ true) where
+    pub scan-bad : (b : ℕ) → b ≡ badFrom 1 w → badFrom 1 w ≢ 0 → record { bad = b; syndrome = zeros (moduli 0 0) } ≡ scannedFor t r s w
+    unfolding scannedFor
+    scan-bad b e n = rw (y, e, ne-eqb (badFrom 1 w) 0 n, zeros-for 0 0 (binaryOf t r) (quaternaryOf t r))
 
-pub syndrome-none : (t r s : ℕ) (w : List ℕ) → fitsWord t r s (length w) ≡ false → zeros (moduli 0 0) ≡ shortenedSyndromeFor t r s w
-unfolding shortenedSyndromeFor
-syndrome-none t r s w y = rw y (zeros-for 0 0 (binaryOf t r) (quaternaryOf t r))
-
-pub fault-none : (t r s : ℕ) (w : List ℕ) → fitsWord t r s (length w) ≡ false → 0 ≡ shortenedFaultFor t r s w
-unfolding shortenedFaultFor
-fault-none t r s w y = rw y
+    pub scan-good : (x : List ℕ) → badFrom 1 w ≡ 0 → x ≡ shortenedSyndrome (moduliFor t r) s w → record { bad = 0; syndrome = x } ≡ scannedFor t r s w
+    unfolding scannedFor
+    scan-good x z e = rw (y, z, e ∙ syndrome-fits y)
 
 -- ---- outputs
-less-none : (n : ℕ) → n - 0 ≡ n
-less-none n = omega arith
-
 -- nothing is written where a test of what is read says no, or there is no room
 module _ (fits : Bool) (n : ℕ) (new old : List ℕ) where
   unfit : fits ≡ false → old ≡ calls.written (fits && leb n (length old)) n new old
@@ -77,36 +87,21 @@ module _ (fits : Bool) (n : ℕ) (new old : List ℕ) where
   wide : fits ≡ true → leb n (length old) ≡ true → new ++ drop n old ≡ calls.written (fits && leb n (length old)) n new old
   wide y e = rw (y, e)
 
--- with s = 0 it is what is written with none left out
-wide-zero : (fits : Bool) (n s : ℕ) (new : ℕ → List ℕ) (old : List ℕ) → fits ≡ true → leb (n - s) (length old) ≡ true → s ≡ 0
-    → new 0 ++ drop n old ≡ calls.written (fits && leb (n - s) (length old)) (n - s) (new s) old
-wide-zero fits n s new old y e z =
-    ap (λ (k : ℕ). new 0 ++ drop k old) (sym (less-none n))
-    ∙ ap (λ (k : ℕ). new k ++ drop (n - k) old) (sym z) ∙ wide fits (n - s) (new s) old y e
-
+-- a message: nothing is done where it is not of its length or there is no room, nor where a byte is above 1, whose place is told
 module _ (t r s : ℕ) (m old : List ℕ) where
-  pub encode-none : fitsMessage t r s (length m) ≡ false → old ≡ shortenedEncodeFor t r s m old
-  unfolding shortenedEncodeFor
-  encode-none y = unfit (fitsMessage t r s (length m)) (placesOf t - s) (shortenedEncode (moduliFor t r) s m) old y
+  pub encode-none : fitsMessage t r s (length m) ≡ false → (0 ≡ encodeBadFor t r s m old) × (old ≡ shortenedEncodeFor t r s m old)
+  unfolding encodeBadFor shortenedEncodeFor
+  encode-none y = (rw y, rw y)
 
-  module _ (y : fitsMessage t r s (length m) ≡ true) where
-    pub encode-narrow : leb (placesOf t - s) (length old) ≡ false → old ≡ shortenedEncodeFor t r s m old
-    unfolding shortenedEncodeFor
-    encode-narrow e = narrow (fitsMessage t r s (length m)) (placesOf t - s) (shortenedEncode (moduliFor t r) s m) old y e
+  pub encode-narrow : fitsMessage t r s (length m) ≡ true → leb (placesOf t - s) (length old) ≡ false → (0 ≡ encodeBadFor t r s m old) × (old ≡ shortenedEncodeFor t r s m old)
+  unfolding encodeBadFor shortenedEncodeFor
+  encode-narrow y e = (rw (y, e), rw (y, e))
 
-    module _ (e : leb (placesOf t - s) (length old) ≡ true) where
-      pub encode-else : shortenedEncode (moduliFor t r) s m ++ drop (placesOf t - s) old ≡ shortenedEncodeFor t r s m old
-      unfolding shortenedEncodeFor
-      encode-else = wide (fitsMessage t r s (length m)) (placesOf t - s) (shortenedEncode (moduliFor t r) s m) old y e
-
-      pub encode-whole : s ≡ 0 → calls.encodeFor t r m old ≡ shortenedEncodeFor t r s m old
-      unfolding calls.encodeFor shortenedEncodeFor shortenedEncode
-      encode-whole z =
-          let f = message-fits t r s (length m) y in
-          let a = f .all in
-          let g = leb-true (placesOf t - s) (length old) e in
-          rw (admitted-admits t r (f .admitted), eq-eqb (length m) (messageOf t) (omega arith), le-leb (placesOf t) (length old) (omega arith))
-          (wide-zero (fitsMessage t r s (length m)) (placesOf t) s (λ (k : ℕ). shortenedEncode (moduliFor t r) k m) old y e z)
+  module _ (y : fitsMessage t r s (length m) ≡ true) (e : leb (placesOf t - s) (length old) ≡ true) where
+    pub encode-fits : (x : ℕ) (new : List ℕ) → x ≡ badFrom 1 m → new ≡ calls.written (eqb (badFrom 1 m) 0) (placesOf t - s) (shortenedEncode (moduliFor t r) s m) old
+        → (x ≡ encodeBadFor t r s m old) × (new ≡ shortenedEncodeFor t r s m old)
+    unfolding encodeBadFor shortenedEncodeFor
+    encode-fits x new f g = (rw (y, e) f, rw (y, e) g)
 
 module _ (t r s : ℕ) (w old : List ℕ) where
   pub invert-none : fitsWord t r s (length w) ≡ false → old ≡ shortenedInvertFor t r s w old

@@ -6,7 +6,7 @@ use mathlib.Core.Logic.{inl, inr}
 use Prim.Native.Nat.{ℕ, _+_, _-_, _<_, _≤_}
 use native.Mathlib.Decide.{decLt}
 use native.Mathlib.Omega.{arith}
-use lib.ListN.{length, getD, length-drop, length-replicate}
+use lib.ListN.{length, getD, length-drop, length-replicate, getD-replicate, List·getD-append}
 use lib.Seq.{getD-drop, getD-append-add}
 use Rattle.group_theory.specs.Group.{Modulus, moduli}
 use Rattle.layout_theory.specs.Layout.{slots}
@@ -21,13 +21,24 @@ use Rattle.shortened_theory.specs.Allowed.{EndsWhole}
 use Rattle.shortened_theory.specs.Code.{fill, shortenedInverse}
 use Rattle.loops_theory.specs.Writing.{Cut}
 
+pub getD-left : (d : ℕ) (w : List ℕ) (i : ℕ) → i < d → getD (fill d w) i 0 ≡ 0
+getD-left d w i h = List·getD-append (zeroWord d) w 0 i (let l = length-replicate {A = ℕ} d 0 in omega arith) ∙ getD-replicate d i 0 0 h
+
 pub getD-fill : (d : ℕ) (w : List ℕ) (i : ℕ) → getD (fill d w) (d + i) 0 ≡ getD w i 0
 getD-fill d w i = ap (λ (k : ℕ). getD (fill d w) (k + i) 0) (sym (length-replicate d 0)) ∙ getD-append-add (zeroWord d) w i 0
+
+pub getD-kept : (d : ℕ) (w : List ℕ) (i : ℕ) → d ≤ i → getD (fill d w) i 0 ≡ getD w (i - d) 0
+getD-kept d w i h = let e : d + (i - d) ≡ i = omega arith in ap (λ (k : ℕ). getD (fill d w) k 0) (sym e) ∙ getD-fill d w (i - d)
 
 -- the other half of a pair that is kept is kept
 swapped-kept : (part d i : ℕ) → EndsWhole part d → part ≤ d + i → d ≤ part + swapped (d + i - part)
 swapped-kept part d i (inl h) k = omega arith
 swapped-kept part d i (inr h) k = let j = h .0 in let y = h .1 in omega arith
+
+-- and that of a pair that is left out is left out
+swapped-left : (part d i : ℕ) → EndsWhole part d → part ≤ i → i < d → part + swapped (i - part) < d
+swapped-left part d i (inl h) k l = absurd (omega arith)
+swapped-left part d i (inr h) k l = let j = h .0 in let y = h .1 in omega arith
 
 module _ (s : Shape) (d : ℕ) (c : Cut s d) where
   abbrev ms : List Modulus
@@ -47,6 +58,22 @@ module _ (s : Shape) (d : ℕ) (c : Cut s d) where
       go (no l) (yes m) n = rw (other-two _ _ _ _ L (d + i) (omega arith) m) (swapped-kept (s .binary - s .a) d i (c .ends) (omega arith))
       go (no l) (no m) (yes n) = rw (other-three _ _ _ _ L (d + i) (omega arith) n) (omega arith)
       go (no l) (no m) (no n) = let st = c .stays in rw (other-four _ _ _ _ L (d + i) (omega arith) (omega (arith, z .check))) (omega arith)
+
+  -- by the old index
+  pub other-old : (i j : ℕ) → d ≤ i → i < s .places → j ≡ otherAt (slots ms) i → (d ≤ j) × (j < s .places)
+  other-old i j h l e =
+      let k : d + (i - d) ≡ i = omega arith in
+      (rw (e, ← k) (other-kept (i - d) (omega arith)), rw e (other-within s (c .code) (c .some) i l))
+
+  pub other-gone : (i : ℕ) → i < d → otherAt (slots ms) i < d
+  other-gone i h = go (decLt i (s .binary - s .a))
+    where
+      L : Located (s .a) (s .b) (s .binary - s .a) (s .message)
+      L = located s (c .code) (c .some)
+
+      go : Dec (i < s .binary - s .a) → otherAt (slots ms) i < d
+      go (yes l) = rw (other-one _ _ _ _ L i l) h
+      go (no l) = let st = c .stays in rw (other-two _ _ _ _ L i (omega arith) (omega arith)) (swapped-left (s .binary - s .a) d i (c .ends) (omega arith) h)
 
   module _ (w : List ℕ) where
     pub length-cut : length (shortenedInverse ms d w) ≡ s .places - d

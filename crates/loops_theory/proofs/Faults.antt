@@ -14,30 +14,17 @@ use Rattle.group_theory.specs.Group.{Modulus, moduli, negative}
 use Rattle.layout_theory.specs.Choice.{pick}
 use Rattle.layout_theory.specs.Parameters.{moduliFor}
 use Rattle.layout_theory.specs.Layout.{Slot, slots, placeOf}
-use Rattle.layout_theory.specs.Calls.{shapeFor, placeFor}
+use Rattle.layout_theory.specs.Calls.{placeFor}
 use Rattle.layout_theory.specs.declared.Shape.{Shape}
 use Rattle.layout_theory.proofs.Parameters.{Known, moduli-known, length-for, place-for}
 use Rattle.layout_theory.proofs.Places.{place-most}
 use Rattle.words_theory.specs.Words.{flip}
-use Rattle.words_theory.specs.Syndrome.{syndrome}
 use Rattle.words_theory.specs.Halves.{otherAt, movedAt, moved}
-use Rattle.words_theory.specs.Calls.{fault, faultFor, flipFor}
+use Rattle.words_theory.specs.Calls.{faultAt, flipFor}
 use Rattle.words_theory.proofs.Flips.{flip-set}
-use Rattle.loops_theory.proofs.Answers.{long-none, long-short, long-whole}
-
--- ---- by the tests
-module _ (t r : ℕ) (w : List ℕ) (s : Shape) where
-  pub fault-nowhere : s ≡ shapeFor t r → s .places ≡ 0 → 0 ≡ faultFor t r w
-  unfolding faultFor
-  fault-nowhere e z = rw (long-none t r w s e z)
-
-  pub fault-short : Known t r s → length w < s .places → 0 ≡ faultFor t r w
-  unfolding faultFor
-  fault-short k h = rw (long-short t r w s k h)
-
-  pub fault-whole : Known t r s → s .places ≤ length w → fault (moduliFor t r) w ≡ faultFor t r w
-  unfolding faultFor
-  fault-whole k h = rw (long-whole t r w s k h)
+use Rattle.shortened_theory.specs.Code.{fill}
+use Rattle.loops_theory.specs.Writing.{Cut}
+use Rattle.loops_theory.proofs.Cuts.{getD-left, getD-kept, other-gone}
 
 -- ---- from minus the syndrome to the place at fault
 -- the code's choice between a place and its other half
@@ -62,22 +49,40 @@ pub place-within : (t r : ℕ) (s : Shape) → Known t r s → (m : List ℕ) (p
 place-within t r s k m p f =
     omega (arith, f ∙ place-for t r m (k .admitted), place-most (moduliFor t r) m, length-for t r (k .admitted), k .places)
 
--- x is the syndrome, m is minus it, and p its place
+-- x is an element, m is minus it, and p its place
 module _ (t r : ℕ) (s : Shape) (k : Known t r s) (w x m : List ℕ) (p : ℕ)
-    (d : x ≡ syndrome (moduliFor t r) w)
     (e : m ≡ negative (moduli (s .a) (s .b)) x)
     (f : p ≡ placeFor t r m) where
-  found : p ≡ placeOf (moduliFor t r) (negative (moduliFor t r) (syndrome (moduliFor t r) w))
-  found = f ∙ place-for t r m (k .admitted) ∙ ap (placeOf (moduliFor t r)) (e ∙ ap₂ negative (moduli-known t r s k) d)
+  found : p ≡ placeOf (moduliFor t r) (negative (moduliFor t r) x)
+  found = f ∙ place-for t r m (k .admitted) ∙ ap (placeOf (moduliFor t r)) (e ∙ ap (λ (ms : List Modulus). negative ms x) (moduli-known t r s k))
 
-  pub fault-nothing : p ≡ 0 → 0 ≡ fault (moduliFor t r) w
+  pub fault-nothing : p ≡ 0 → 0 ≡ faultAt (moduliFor t r) x w
   fault-nothing z = ap (moved (slots (moduliFor t r)) w) (sym z ∙ found)
 
   pub fault-something : p ≢ 0 → (i j : ℕ) → i ≡ otherAt (slots (moduli (s .a) (s .b))) (p - 1)
-      → j ≡ pick (eqb (getD w (p - 1) 0) (getD w i 0)) (p - 1) i → j + 1 ≡ fault (moduliFor t r) w
+      → j ≡ pick (eqb (getD w (p - 1) 0) (getD w i 0)) (p - 1) i → j + 1 ≡ faultAt (moduliFor t r) x w
   fault-something n i j g h =
       moved-told (slots (moduliFor t r)) w p i j n (g ∙ ap (λ (ms : List Modulus). otherAt (slots ms) (p - 1)) (moduli-known t r s k)) h
       ∙ ap (moved (slots (moduliFor t r)) w) found
+
+-- the same of a word whose first d places are left out: they are 0, and so are both halves of a pair that is
+module _ (t r d : ℕ) (s : Shape) (k : Known t r s) (c : Cut s d) (w x m : List ℕ) (p : ℕ)
+    (e : m ≡ negative (moduli (s .a) (s .b)) x)
+    (f : p ≡ placeFor t r m) (n : p ≢ 0) where
+  pub fault-gone : p - 1 < d → p ≡ faultAt (moduliFor t r) x (fill d w)
+  fault-gone h =
+      let i = otherAt (slots (moduli (s .a) (s .b))) (p - 1) in
+      let a : getD (fill d w) (p - 1) 0 ≡ 0 = getD-left d w (p - 1) h in
+      let b : getD (fill d w) i 0 ≡ 0 = getD-left d w i (other-gone s d c (p - 1) h) in
+      let q : p - 1 ≡ pick (eqb (getD (fill d w) (p - 1) 0) (getD (fill d w) i 0)) (p - 1) i = rw (a, b) refl in
+      let z : p ≡ p - 1 + 1 = omega arith in
+      z ∙ fault-something t r s k (fill d w) x m p e f n i (p - 1) refl q
+
+  pub fault-kept : d ≤ p - 1 → (i j : ℕ) → i ≡ otherAt (slots (moduli (s .a) (s .b))) (p - 1) → d ≤ i
+      → j ≡ pick (eqb (getD w (p - 1 - d) 0) (getD w (i - d) 0)) (p - 1) i → j + 1 ≡ faultAt (moduliFor t r) x (fill d w)
+  fault-kept h i j g l q =
+      fault-something t r s k (fill d w) x m p e f n i j g
+      (q ∙ sym (ap₂ (λ (y z : ℕ). pick (eqb y z) (p - 1) i) (getD-kept d w (p - 1) h) (getD-kept d w i l)))
 
 -- ---- a word with one place flipped, at the front of an output
 -- a copy to the front keeps the bytes after it

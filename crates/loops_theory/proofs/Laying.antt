@@ -21,7 +21,7 @@ use Rattle.folds_theory.specs.Folds.{room, Holds}
 use Rattle.folds_theory.proofs.Levelling.{twelve}
 use Rattle.words_theory.specs.Digits.{digit}
 use Rattle.words_theory.proofs.Combining.{digit-lt}
-use Rattle.loops_theory.specs.Spread.{widthOf, spread, row, HoldsMessage}
+use Rattle.loops_theory.specs.Spread.{widthOf, spread, row, HoldsMessage, HoldsPairs}
 use Rattle.loops_theory.proofs.Segments.{pair-segment, low-segment, even-segment, spread-zero, spread-none}
 
 -- ---- weights in a row, by index
@@ -32,11 +32,11 @@ length-row false zero w = refl
 length-row true (suc n) w = let i = length-row true n (tl (tl w)) in omega arith
 length-row false (suc n) w = let i = length-row false n (tl w) in omega arith
 
-getD-tl : (w : List ℕ) (i : ℕ) → getD (tl w) i 0 ≡ getD w (suc i) 0
+pub getD-tl : (w : List ℕ) (i : ℕ) → getD (tl w) i 0 ≡ getD w (suc i) 0
 getD-tl [] i = refl
 getD-tl (x ∷ w) i = refl
 
-hd-getD : (w : List ℕ) → hd w ≡ getD w 0 0
+pub hd-getD : (w : List ℕ) → hd w ≡ getD w 0 0
 hd-getD [] = refl
 hd-getD (x ∷ w) = refl
 
@@ -107,11 +107,11 @@ digit-write w at n i h =
     sym (digit-at n i (drop at w) h
     ∙ ap₂ (λ (x y : ℕ). pick (eqb (i % 2) 0) (digit x y) 0) (getD-drop at w i 0) (getD-drop at w (i + 1) 0 ∙ ap (λ (k : ℕ). getD w k 0) a))
 
-pub digit-wrote : (w : List ℕ) (at n i d x : ℕ) → x ≡ pick (eqb (i % 2) 0) (d % 4) 0 → d ≡ digit (getD w (at + i) 0) (getD w (at + i + 1) 0) → i < 2 * n - 1
+pub digit-wrote : (w : List ℕ) (at n i d x : ℕ) → x ≡ pick (eqb (i % 2) 0) (d % 4) 0 → d ≡ digit (getD w (at + i) 0) (getD w (at + i + 1) 0) → i < 2 * n
     → x ≡ getD (row true n (drop at w)) i 0
 digit-wrote w at n i d x e f h =
     let l = digit-lt (getD w (at + i) 0) (getD w (at + i + 1) 0) in
-    e ∙ ap (λ (y : ℕ). pick (eqb (i % 2) 0) y 0) (ap (λ (y : ℕ). y % 4) f ∙ mod-eq-of-lt l) ∙ digit-write w at n i (omega arith)
+    e ∙ ap (λ (y : ℕ). pick (eqb (i % 2) 0) y 0) (ap (λ (y : ℕ). y % 4) f ∙ mod-eq-of-lt l) ∙ digit-write w at n i h
 
 -- the mask that keeps every other digit
 pub masked : (d o : ℕ) → o < 2 → bitAnd d (3 - 3 * o) ≡ pick (eqb o 0) (d % 4) 0
@@ -124,42 +124,7 @@ bytes-done w v₀ at k n v i f h =
     let l = length-row false n (drop at w) in
     copy-done (row false n (drop at w)) v₀ k n v i f h ∙ ap (λ (r : List ℕ). take k v₀ ++ r) (take-all n (row false n (drop at w)) (omega arith))
 
--- ---- one segment: of pairs, and of singles
-unit-cleared : (v : List ℕ) (p : ℕ) → 2 * p + 2 ≤ length v → take (2 * p + (2 + 2 * 0)) (set (set v (2 * p) 0) (2 * p + 1) 0) ≡ take (2 * p) v ++ 0 ∷ 0 ∷ []
-unit-cleared v p h =
-    let a : 2 * p + (2 + 2 * 0) ≡ suc (suc (2 * p)) = omega arith in
-    let b : 2 * p + 1 ≡ suc (2 * p) = omega arith in
-    let l = length-set v (2 * p) 0 in
-    ap₂ (λ (i j : ℕ). take i (set (set v (2 * p) 0) j 0)) a b
-    ∙ take-suc-set (set v (2 * p) 0) (suc (2 * p)) 0 (omega arith)
-    ∙ ap (λ (r : List ℕ). r ++ (0 ∷ [])) (take-suc-set v (2 * p) 0 (omega arith))
-    ∙ append-assoc (take (2 * p) v) (0 ∷ []) (0 ∷ [])
-
-segment-written : (v u w : List ℕ) (p n at : ℕ) → 0 < n → 2 * p + (2 + 2 * n) ≤ length v → length u ≡ length v
-    → take (2 * p + 2 + (2 * n - 1)) u ≡ take (2 * p + 2) (set (set v (2 * p) 0) (2 * p + 1) 0) ++ take (2 * n - 1) (row true n (drop at w))
-    → take (2 * p + (2 + 2 * n)) (set u (2 * p + 1 + 2 * n) 0) ≡ take (2 * p) v ++ 0 ∷ 0 ∷ row true n (drop at w)
-segment-written v u w p n at h l m e =
-    let g = row true n (drop at w) in
-    let lg : length g ≡ 2 * n = length-row true n (drop at w) in
-    let a : 2 * p + (2 + 2 * n) ≡ suc (2 * p + 1 + 2 * n) = omega arith in
-    let b : 2 * p + 1 + 2 * n ≡ 2 * p + 2 + (2 * n - 1) = omega arith in
-    let c : 2 * p + 2 ≡ 2 * p + (2 + 2 * 0) = omega arith in
-    let d : suc (2 * n - 1) ≡ 2 * n = omega arith in
-    let o : getD g (2 * n - 1) 0 ≡ 0 =
-    digit-at n (2 * n - 1) (drop at w) (omega arith) ∙ ap (λ (k : ℕ). pick (eqb k 0) (digit (getD (drop at w) (2 * n - 1) 0) (getD (drop at w) (2 * n - 1 + 1) 0)) 0) (odd n h) in
-    let q : take (2 * n - 1) g ++ (0 ∷ []) ≡ g =
-    ap (λ (k : ℕ). take (2 * n - 1) g ++ (k ∷ [])) (sym o) ∙ sym (take-suc g (2 * n - 1) 0 (omega arith)) ∙ ap (λ (k : ℕ). take k g) d ∙ take-all (2 * n) g (omega arith) in
-    ap (λ (k : ℕ). take k (set u (2 * p + 1 + 2 * n) 0)) a
-    ∙ take-suc-set u (2 * p + 1 + 2 * n) 0 (omega arith)
-    ∙ ap (λ (k : ℕ). take k u ++ (0 ∷ [])) b
-    ∙ ap (λ (r : List ℕ). r ++ (0 ∷ [])) (e ∙ ap (λ (k : ℕ). take k (set (set v (2 * p) 0) (2 * p + 1) 0) ++ take (2 * n - 1) g) c ∙ ap (λ (r : List ℕ). r ++ take (2 * n - 1) g) (unit-cleared v p (omega arith)))
-    ∙ append-assoc (take (2 * p) v ++ 0 ∷ 0 ∷ []) (take (2 * n - 1) g) (0 ∷ [])
-    ∙ ap (λ (r : List ℕ). (take (2 * p) v ++ 0 ∷ 0 ∷ []) ++ r) q
-    ∙ append-assoc (take (2 * p) v) (0 ∷ 0 ∷ []) g
-  where
-    odd : (n : ℕ) → 0 < n → (2 * n - 1) % 2 ≡ 1
-    odd n h = omega arith
-
+-- ---- one segment of singles
 single-written : (v u w : List ℕ) (k n at : ℕ) → k < length v → take (k + 1 + n) u ≡ take (k + 1) (set v k 0) ++ row false n (drop at w)
     → take (k + (1 + n)) u ≡ take k v ++ 0 ∷ row false n (drop at w)
 single-written v u w k n at h e =
@@ -168,21 +133,7 @@ single-written v u w k n at h e =
     ∙ ap (λ (r : List ℕ). r ++ row false n (drop at w)) (ap (λ (i : ℕ). take i (set v k 0)) (add-one k) ∙ take-suc-set v k 0 h)
     ∙ append-assoc (take k v) (0 ∷ []) (row false n (drop at w))
 
--- the same, as the functions leave them one after the other
-pub pairs-none : (v x y w : List ℕ) (p n at : ℕ) → n ≡ 0 → 2 * p + (2 + 2 * n) ≤ length v → x ≡ set v (2 * p) 0 → y ≡ set x (2 * p + 1) 0
-    → take (2 * p + (2 + 2 * n)) y ≡ take (2 * p) v ++ 0 ∷ 0 ∷ row true n (drop at w)
-unfolding row
-pairs-none v x y w p n at z h e f = rw (z, f, e) (unit-cleared v p (omega arith))
-
-pub pairs-some : (v x y u r w : List ℕ) (p n at : ℕ) → 0 < n → 2 * p + (2 + 2 * n) ≤ length v → x ≡ set v (2 * p) 0 → y ≡ set x (2 * p + 1) 0 → length u ≡ length y
-    → take (2 * p + 2 + (2 * n - 1)) u ≡ take (2 * p + 2) y ++ take (2 * n - 1) (row true n (drop at w)) → r ≡ set u (2 * p + 1 + 2 * n) 0
-    → take (2 * p + (2 + 2 * n)) r ≡ take (2 * p) v ++ 0 ∷ 0 ∷ row true n (drop at w)
-pairs-some v x y u r w p n at h l e f m g k =
-    let t : y ≡ set (set v (2 * p) 0) (2 * p + 1) 0 = f ∙ ap (λ (q : List ℕ). set q (2 * p + 1) 0) e in
-    let o : length u ≡ length v = m ∙ ap length t ∙ length-set (set v (2 * p) 0) (2 * p + 1) 0 ∙ length-set v (2 * p) 0 in
-    ap (take (2 * p + (2 + 2 * n))) k
-    ∙ segment-written v u w p n at h l o (g ∙ ap (λ (q : List ℕ). take (2 * p + 2) q ++ take (2 * n - 1) (row true n (drop at w))) t)
-
+-- the same, as the functions leave it one after the other
 pub single-done : (v x u w : List ℕ) (k n at : ℕ) → k < length v → x ≡ set v k 0 → take (k + 1 + n) u ≡ take (k + 1) x ++ row false n (drop at w)
     → take (k + (1 + n)) u ≡ take k v ++ 0 ∷ row false n (drop at w)
 single-done v x u w k n at h e f = single-written v u w k n at h (f ∙ ap (λ (q : List ℕ). take (k + 1) q ++ row false n (drop at w)) e)
@@ -193,7 +144,8 @@ pub record Pairing (a b part : ℕ) (w v₀ v : List ℕ) (p e at j : ℕ) : Typ
   pub plusses : p ≡ plusTo a b j
   pub evens : e ≡ evenTo a b j
   pub place : at + 2 * j ≡ part + 2 * p
-  pub holds : Holds a b (length v₀)
+  pub rises : j ≤ p
+  pub holds : HoldsPairs a b (length v₀)
   pub wide : length v ≡ length v₀
   pub front : take (2 * p) v ≡ spread true (moduli a b) (blocks.plus (level a b j)) (drop part w)
 
@@ -227,13 +179,14 @@ module _ (a b count part : ℕ) (w : List ℕ) (L : HoldsMessage a b count part 
       let fr = L .front in
       (omega arith, omega arith, t .1, omega arith)
 
-  pub pairing-start : (v : List ℕ) (e : ℕ) → e ≡ 2 ^ a → Holds a b (length v) → Pairing a b part w v v 0 e part 0
+  pub pairing-start : (v : List ℕ) (e : ℕ) → e ≡ 2 ^ a → HoldsPairs a b (length v) → Pairing a b part w v v 0 e part 0
   pairing-start v e h l =
       record {
         within = omega arith;
         plusses = sym (ap length (plus-none a b));
         evens = h ∙ sym (even-first a b components);
         place = omega arith;
+        rises = omega arith;
         holds = l;
         wide = refl;
         front = sym (spread-none a b components (drop part w));
@@ -244,8 +197,8 @@ module _ (a b count part : ℕ) (w : List ℕ) (L : HoldsMessage a b count part 
     pub next : 4 * p + e ≡ plusTo a b (suc j)
     pub some : 0 < 3 * p + e
     pub bytes : at + 2 * (3 * p + e - 1) ≤ length w
-    pub fits : 2 * p + (2 + 2 * (3 * p + e - 1)) ≤ size (moduli a b)
-    pub few : e ≤ size (moduli a b)
+    pub fits : 2 * p + (2 + 2 * (3 * p + e - 1)) ≤ 2 * plusTo a b b
+    pub few : e ≤ plusTo a b b
 
   pub pairing-asks : (v₀ v : List ℕ) (p e at j : ℕ) → Pairing a b part w v₀ v p e at j → j < b → Segment p e at j
   pairing-asks v₀ v p e at j f h =
@@ -271,18 +224,18 @@ module _ (a b count part : ℕ) (w : List ℕ) (L : HoldsMessage a b count part 
         next = q;
         some = o;
         bytes = reach p e at j (plusTo a b (suc j)) (b - suc j) (plusTo a b b) (length (singles (moduli a b))) (length (pairs (moduli a b))) q z r s2 fr en k o;
-        fits = fit p e (plusTo a b (suc j)) (b - suc j) (plusTo a b b) (evenTo a b b) (size (moduli a b)) q r s0 s3 o;
-        few = small p e (plusTo a b (suc j)) (b - suc j) (plusTo a b b) (evenTo a b b) (size (moduli a b)) q r s0 s3;
+        fits = fit p e (plusTo a b (suc j)) (b - suc j) (plusTo a b b) q r o;
+        few = small p e (plusTo a b (suc j)) (b - suc j) (plusTo a b b) q r;
       }
     where
       more : (p e x y n : ℕ) → 4 * p + e ≡ y → p ≡ x → y ≡ x + suc n → 0 < 3 * p + e
       more p e x y n q f u = omega arith
 
-      fit : (p e y k z f n : ℕ) → 4 * p + e ≡ y → y + k ≤ z → count ≡ 2 * z + f → count ≤ n → 0 < 3 * p + e → 2 * p + (2 + 2 * (3 * p + e - 1)) ≤ n
-      fit p e y k z f n q r t h o = omega arith
+      fit : (p e y k z : ℕ) → 4 * p + e ≡ y → y + k ≤ z → 0 < 3 * p + e → 2 * p + (2 + 2 * (3 * p + e - 1)) ≤ 2 * z
+      fit p e y k z q r o = omega arith
 
-      small : (p e y k z f n : ℕ) → 4 * p + e ≡ y → y + k ≤ z → count ≡ 2 * z + f → count ≤ n → e ≤ n
-      small p e y k z f n q r t h = omega arith
+      small : (p e y k z : ℕ) → 4 * p + e ≡ y → y + k ≤ z → e ≤ z
+      small p e y k z q r = omega arith
 
       reach : (p e at j y k z s t : ℕ) → 4 * p + e ≡ y → at + 2 * j ≡ part + 2 * p → y + k ≤ z → t + b ≡ z → part ≡ s → s + 2 * t ≤ length w → suc j + k ≡ b → 0 < 3 * p + e
           → at + 2 * (3 * p + e - 1) ≤ length w
@@ -304,9 +257,7 @@ module _ (a b count part : ℕ) (w : List ℕ) (L : HoldsMessage a b count part 
       let n = 3 * p + e - 1 in
       let k : 2 * p + (2 + 2 * n) ≡ 2 * (4 * p + e) = omega arith in
       let i : n + 1 + plusTo a b j ≡ plusTo a b (suc j) = omega arith in
-      let g0 = plus-rises a b c 0 j (omega arith) in
-      let g1 : plusTo a b (0 + j) ≡ plusTo a b j = ap (plusTo a b) (zero-plus j) in
-      let g2 : j ≤ p = omega arith in
+      let g2 = f .rises in
       let o0 : 2 * p - 2 * j + 2 * j ≡ 2 * plusTo a b j = omega arith in
       let o1 : part + (2 * p - 2 * j) ≡ at = omega arith in
       let d : drop (2 * p - 2 * j) (drop part w) ≡ drop at w = drop-drop (2 * p - 2 * j) part w ∙ ap (λ (t : ℕ). drop t w) o1 in
@@ -316,15 +267,13 @@ module _ (a b count part : ℕ) (w : List ℕ) (L : HoldsMessage a b count part 
         plusses = q;
         evens = omega arith;
         place = omega arith;
+        rises = omega arith;
         holds = f .holds;
         wide = l ∙ f .wide;
         front = ap (λ (t : ℕ). take t v′) (sym k) ∙ g
             ∙ ap₂ (λ (r t : List ℕ). r ++ 0 ∷ 0 ∷ row true n t) (f .front) (sym d)
             ∙ sym (pair-segment a b c j h n (2 * p - 2 * j) i o0 (drop part w));
       })
-    where
-      zero-plus : (j : ℕ) → 0 + j ≡ j
-      zero-plus j = omega arith
 
   pub pairing-done : (v₀ v : List ℕ) (p e at j : ℕ) → Pairing a b part w v₀ v p e at j → b ≤ j
       → take (2 * plusTo a b b) v ≡ spread true (moduli a b) (blocks.plus (level a b b)) (drop part w)

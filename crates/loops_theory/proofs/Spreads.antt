@@ -22,7 +22,7 @@ module _ (p : Bool) (ms : List Modulus) (x : ℕ) (xs w : List ℕ) where
   unfolding spread
   spread-yes e = rw e refl
 
-  spread-no : skips ms x ≡ false → spread p ms (x ∷ xs) w ≡ weightOf p (readOf p w) (spread p ms xs (restOf p w))
+  pub spread-no : skips ms x ≡ false → spread p ms (x ∷ xs) w ≡ weightOf p (readOf p w) (spread p ms xs (restOf p w))
   unfolding spread
   spread-no e = rw e refl
 
@@ -77,7 +77,7 @@ drop-tl [] zero = refl
 drop-tl [] (suc i) = refl
 drop-tl (x ∷ w) i = refl
 
-drop-rest : (p : Bool) (w : List ℕ) (n : ℕ) → drop (widthOf p * n) (restOf p w) ≡ drop (widthOf p * suc n) w
+pub drop-rest : (p : Bool) (w : List ℕ) (n : ℕ) → drop (widthOf p * n) (restOf p w) ≡ drop (widthOf p * suc n) w
 drop-rest true w n =
     let e : 2 * suc n ≡ suc (suc (2 * n)) = omega arith in
     rw e (drop-tl (tl w) (2 * n) ∙ drop-tl w (suc (2 * n)))

@@ -8,9 +8,11 @@ use lib.ListN.{length}
 use Rattle.group_theory.specs.Group.{Modulus, moduli, hd, tl, size}
 use Rattle.layout_theory.specs.Choice.{pick}
 use Rattle.layout_theory.specs.Layout.{Slot, single, pair, singles, pairs}
-use Rattle.blocks_theory.specs.Blocks.{skips}
-use Rattle.folds_theory.specs.Folds.{widest, twice}
+use Rattle.blocks_theory.specs.Blocks.{skips, plusTo}
+use Rattle.folds_theory.specs.Folds.{widest, room, twice}
 use Rattle.words_theory.specs.Digits.{digit}
+use Rattle.shortened_theory.specs.Allowed.{EndsWhole}
+use Rattle.shortened_theory.specs.Code.{fill}
 
 -- of a part of the message, pairs or singles: the next weight, the bytes after it, how many bytes it takes, its slot, and the numbers
 -- of the weights: a pair has two
@@ -49,9 +51,24 @@ unfoldable pub row : Bool → ℕ → List ℕ → List ℕ
 row p zero w = []
 row p (suc n) w = weightOf p (readOf p w) (row p n (restOf p w))
 
+-- the places of a message
+abbrev pub messageIn : ℕ → ℕ → ℕ
+messageIn a b = length (singles (moduli a b)) + 2 * length (pairs (moduli a b))
+
 -- the group has `count` elements, part 1 of the message `part` places, and a word of n bytes has all the message's
 pub record HoldsMessage (a b count part n : ℕ) : Type 0 where
   pub few : a + 2 * b ≤ widest
   pub all : count ≡ size (moduli a b)
   pub front : part ≡ length (singles (moduli a b))
-  pub enough : length (singles (moduli a b)) + 2 * length (pairs (moduli a b)) ≤ n
+  pub enough : messageIn a b ≤ n
+
+-- k weights are enough for the pairs, and no more than there is room for
+pub record HoldsPairs (a b k : ℕ) : Type 0 where
+  pub enough : 2 * plusTo a b b ≤ k
+  pub most : k ≤ room
+
+-- a word whose first d places are left out has, filled with d zeros, all of a message, and pairs are left out whole
+pub record HoldsFilled (a b count part d : ℕ) (w : List ℕ) : Type 0 where
+  pub message : HoldsMessage a b count part (length (fill d w))
+  pub ends : EndsWhole part d
+  pub few : d ≤ room

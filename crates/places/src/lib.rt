@@ -8,24 +8,20 @@ mod ones;
 mod place;
 
 ghost use mathlib.Core.Path.{_≡_};
-ghost use Rattle.words_theory.specs.Calls.{faultFor, widthFor, thirdFor};
-ghost use Rattle.shortened_theory.specs.Calls.{shortenedInvertFor};
+ghost use Rattle.words_theory.specs.Calls.{widthFor, thirdFor};
+ghost use Rattle.shortened_theory.specs.Calls.{faultAtFor, shortenedInvertFor};
+use group::Element;
 
-// The place at fault, told from the syndrome: for a word of bits, the one that correction changes; 0
-// for a codeword, and where t and r are not admitted or the word is shorter.
-pub fn fault(t: u32, r: u32, word: &[u8]) -> u32
-    ensures { λ x. ⌜ x ≡ faultFor t r (now (word .entry)) ⌝ }
+// The place at fault in a word of syndrome e, by the number that it had before renumbering: for a word of bits,
+// the one that correction changes; 0 where e is zero, and where the word is none of the code.
+pub fn fault(t: u32, r: u32, s: u32, e: Element, word: &[u8]) -> u32
+    ensures { λ x. ⌜ x ≡ faultAtFor t r s e (now (word .entry)) ⌝ }
 {
-    let s = parameters::shape_of(t, r);
-    let n = s.places as usize;
-    if n == 0 {
-        return 0;
+    if parameters::fits_word(t, r, s, word.len()) {
+        let h = parameters::shape_of(t, r);
+        return place::fault_of(t, r, h, s as usize, e, word);
     }
-    if word.len() < n {
-        return 0;
-    }
-    let e = coding::syndrome(t, r, word);
-    place::fault_of(t, r, s, e, word)
+    0
 }
 
 // 1 for a binary place, 2 for a place of a pair; 0 where there is no such place.

@@ -1,6 +1,6 @@
 // One place of a word: which is at fault, and whether it is binary or of a pair.
 ghost use mathlib.Core.Path.{_≡_};
-ghost use Prim.Native.Nat.{ℕ, _-_, _<_, _≤_};
+ghost use Prim.Native.Nat.{ℕ, _+_, _-_, _<_, _≤_};
 ghost use lib.Dec.{eqb};
 ghost use lib.ListN.{length};
 ghost use Rattle.group_theory.specs.Group.{moduli};
@@ -8,9 +8,10 @@ ghost use Rattle.layout_theory.specs.Choice.{pick};
 ghost use Rattle.layout_theory.specs.Parameters.{moduliFor};
 ghost use Rattle.layout_theory.specs.Layout.{slots};
 ghost use Rattle.layout_theory.specs.Calls.{shapeFor};
-ghost use Rattle.words_theory.specs.Syndrome.{syndrome};
 ghost use Rattle.words_theory.specs.Halves.{widthAt};
 ghost use Rattle.words_theory.specs.Calls as calls;
+ghost use Rattle.shortened_theory.specs.Code.{fill};
+ghost use Rattle.loops_theory.specs.Writing.{Cut};
 use crate::halves;
 use group::Element;
 use layout_theory::Shape;
@@ -23,10 +24,10 @@ fn half(b: u8, c: u8, i: usize, k: usize) -> usize
 }
 
 // The place at fault, from the syndrome: the place of minus the syndrome, or, where the word differs
-// on the two halves of its pair, the other half.
-pub(crate) fn fault_of(t: u32, r: u32, s: Shape, e: Element, word: &[u8]) -> u32
-    requires { ⌜ (s ≡ shapeFor t r) × (0 < s .places) × (s .places ≤ length (now word)) × (e ≡ syndrome (moduliFor t r) (now word)) ⌝ }
-    ensures { λ x. ⌜ x ≡ calls.fault (moduliFor t r) (now (word .entry)) ⌝ }
+// on the two halves of its pair, the other half. The first d places are left out of the word; they are 0.
+pub(crate) fn fault_of(t: u32, r: u32, s: Shape, d: usize, e: Element, word: &[u8]) -> u32
+    requires { ⌜ (s ≡ shapeFor t r) × Cut s d × (s .places ≤ d + length (now word)) ⌝ }
+    ensures { λ x. ⌜ x ≡ calls.faultAt (moduliFor t r) e (fill d (now (word .entry))) ⌝ }
 {
     let m = group::neg(s.a, s.b, e);
     let p = layout::place_of(t, r, m);
@@ -34,8 +35,11 @@ pub(crate) fn fault_of(t: u32, r: u32, s: Shape, e: Element, word: &[u8]) -> u32
         return 0;
     }
     let i = (p - 1) as usize;
+    if i < d {
+        return p;
+    }
     let k = halves::other_index(s, i);
-    let j = half(word[i], word[k], i, k);
+    let j = half(word[i - d], word[k - d], i, k);
     (j + 1) as u32
 }
 

@@ -4,7 +4,7 @@
 -- is perfect), Carrying (combining carries correction along), Encoding, Thirds (the third place). Theorem gathers them, there and for
 -- admitted t and r. Widths says which places are binary. Table has document 01's cases marked P and what request C-11 prints.
 -- For the code as well: Syndromes (the syndrome of any bytes, by its parts), OtherHalf (the other half of a pair, by index), TwoOnes (the word
--- with two ones), Shapes (the numbers of a code).
+-- with two ones), Shapes (the numbers of a code), Bad (the first byte above 1).
 pub mod Reading
 pub mod Combining
 pub mod Adding
@@ -22,3 +22,4 @@ pub mod Theorem
 pub mod Table
 pub mod Shapes
 pub mod Widths
+pub mod Bad

@@ -1,39 +1,36 @@
 -- What the functions of crates coding and places that know no s answer, for any t and r and any bytes: they do nothing where t and r are not
--- admitted, a message is not of its length, or a word or an output is too short. Assumes nothing.
+-- admitted, a number is none of a place, or an output is too short; the lowest byte above 1, and the place at fault. Assumes nothing.
 use mathlib.Core.Bool.{Bool, _&&_, not}
 use mathlib.Core.Logic.{_≢_}
-use mathlib.Core.List.{List, _++_}
-use Prim.Native.Nat.{ℕ, _<_, _≤_}
-use lib.Dec.{eqb, leb}
+use mathlib.Core.List.{List, [], _∷_, _++_}
+use Prim.Native.Nat.{ℕ, suc, _<_, _≤_}
+use lib.Dec.{eqb, leb, ltb}
 use lib.ListN.{length, drop}
-use Rattle.group_theory.specs.Group.{Modulus, zeros, negative}
+use Rattle.group_theory.specs.Group.{Modulus, negative}
 use Rattle.layout_theory.specs.Choice.{pick}
-use Rattle.layout_theory.specs.Parameters.{Admitted, admits, placesOf, messageOf, moduliFor}
+use Rattle.layout_theory.specs.Parameters.{Admitted, admits, placesOf, moduliFor}
 use Rattle.layout_theory.specs.Layout.{slots, placeOf}
 use Rattle.words_theory.specs.Words.{flip}
 use Rattle.words_theory.specs.Syndrome.{syndrome}
 use Rattle.words_theory.specs.Halves.{width, moved}
-use Rattle.words_theory.specs.Coding.{encode, third}
+use Rattle.words_theory.specs.Coding.{third}
 
--- the syndrome of the first n bytes, or zero
-unfoldable pub syndromeFor : ℕ → ℕ → List ℕ → List ℕ
-syndromeFor t r w = pick (admits t r && leb (placesOf t) (length w)) (syndrome (moduliFor t r) w) (zeros (moduliFor t r))
+-- the first place, counted from p, of a byte above 1, or 0
+unfoldable pub badFrom : ℕ → List ℕ → ℕ
+badFrom p [] = 0
+badFrom p (b ∷ w) = pick (ltb 1 b) p (badFrom (suc p) w)
 
 -- an output into which n bytes are written, the further bytes kept; or as it was
 abbrev pub written : Bool → ℕ → List ℕ → List ℕ → List ℕ
 written ok n w old = pick ok (w ++ drop n old) old
 
-unfoldable pub encodeFor : ℕ → ℕ → List ℕ → List ℕ → List ℕ
-encodeFor t r m old =
-    written (admits t r && (eqb (length m) (messageOf t) && leb (placesOf t) (length old))) (placesOf t) (encode (moduliFor t r) m) old
+-- the place at fault in a word of syndrome e: that of minus the syndrome, moved to the other half of its pair where the word differs on the
+-- two; 0 where the syndrome is zero. For a word of bits it is the place that correction changes (`corrected-place` in proofs/Rule).
+abbrev pub faultAt : List Modulus → List ℕ → List ℕ → ℕ
+faultAt ms e w = moved (slots ms) w (placeOf ms (negative ms e))
 
--- the place at fault: that of minus the syndrome, moved to the other half of its pair where the word differs on the two; 0 where the syndrome
--- is zero. For a word of bits it is the place that correction changes (`corrected-place` in proofs/Rule).
 abbrev pub fault : List Modulus → List ℕ → ℕ
-fault ms w = moved (slots ms) w (placeOf ms (negative ms (syndrome ms w)))
-
-unfoldable pub faultFor : ℕ → ℕ → List ℕ → ℕ
-faultFor t r w = pick (admits t r && leb (placesOf t) (length w)) (fault (moduliFor t r) w) 0
+fault ms w = faultAt ms (syndrome ms w) w
 
 -- a word with one place flipped, written over the front of an output that has room for it
 unfoldable pub flipFor : List ℕ → ℕ → List ℕ → List ℕ

@@ -1,14 +1,30 @@
--- `coder::correct` meets its contract: what the checks answer, and where they accept, the word with the place at fault flipped. Assumes nothing.
+-- `coder::correct` meets its contract: what the pass over the word finds, and where nothing is wrong, the word with the place at fault flipped. Assumes nothing.
 use borrow.Author.Needs.{needs}
-use Rattle.coder_theory.proofs.Corrections.{correct-ready, correct-refused, correct-stopped, correct-changed}
+use mathlib.Core.Path.{_≡_, ap, _∙_}
+use mathlib.Core.List.{List}
+use Prim.Native.Nat.{ℕ}
+use Rattle.shortened_theory.specs.Calls.{faultAtFor, shortenedFaultFor}
+use Rattle.coder_theory.proofs.Corrections.{fault-from, correct-ready, correct-refused, correct-stopped, correct-changed}
 use Rattle.coder.proofs.correct.Statement.{statement}
 use Rattle.coder.proofs.correct.Tie as tie
 
-written-requires : tie.Need-written-requires
-written-requires c κs = search needs
+received-requires : tie.Need-received-requires
+received-requires c κs = search needs
 
 returns : tie.Need-returns
-returns c = correct-refused _ _ _ _ (c .before .written .ensures) (c .if1 .taken)
+returns c =
+    let q = c .before in
+    let g = q .before .before .before .args in
+    correct-refused (g .«record») (g .word .now) (g .out .now) _ (q .received .ensures .0) (c .if1 .taken)
+
+-- the place that was told from the syndrome
+told : (c : tie.After-fault) → let g = c .before .before .before .before .before .before .args in c .fault .result ≡ shortenedFaultFor (g .«record» .t) (g .«record» .r) (g .«record» .s) (g .word .now)
+told c =
+    let i = c .before .before in
+    let q = i .before in
+    let g = q .before .before .before .args in
+    let r = g .«record» in
+    c .fault .ensures ∙ ap (λ (e : List ℕ). faultAtFor (r .t) (r .r) (r .s) e (g .word .now)) (q .received .ensures .1 (i .if1 .left)) ∙ fault-from (r .t) (r .r) (r .s) (g .word .now)
 
 fault-requires : tie.Need-fault-requires
 fault-requires c κs = search needs
@@ -19,8 +35,11 @@ correction-requires c κs = search needs
 returns-2 : tie.Need-returns-2
 returns-2 c =
     let u = c .before in
-    let e = u .before .before in
-    correct-stopped _ _ _ _ (e .before .written .ensures) (e .if1 .left) _ (u .before .fault .ensures) _ (u .correction .ensures) (c .if2 .taken)
+    let f = u .before in
+    let i = f .before .before in
+    let q = i .before in
+    let g = q .before .before .before .args in
+    correct-stopped (g .«record») (g .word .now) (g .out .now) _ (q .received .ensures .0) (i .if1 .left) _ (told f) _ (u .correction .ensures) (c .if2 .taken)
 
 new-place-requires : tie.Need-new-place-requires
 new-place-requires c κs = search needs
@@ -30,11 +49,13 @@ flip-requires c κs = search needs
 
 counted-requires : tie.Need-counted-requires
 counted-requires c κs =
-    let f = c .before .before .before .before .before in
-    let u = f .before in
-    let e = u .before .before in
-    let g = e .before .before .before .before .args in
-    correct-ready (g .«record») (g .word .now) (g .out .now) _ (e .before .written .ensures) (e .if1 .left) _ (u .before .fault .ensures) _ (u .correction .ensures) (f .if2 .left)
+    let n = c .before .before .before .before .before in
+    let u = n .before in
+    let f = u .before in
+    let i = f .before .before in
+    let q = i .before in
+    let g = q .before .before .before .args in
+    correct-ready (g .«record») (g .word .now) (g .out .now) _ (q .received .ensures .0) (i .if1 .left) _ (told f) _ (u .correction .ensures) (n .if2 .left)
 
 same-length : tie.Need-same-length
 same-length c = search needs
@@ -42,18 +63,21 @@ same-length c = search needs
 returns-3 : tie.Need-returns-3
 returns-3 c =
     let l = c .before .before .before in
-    let m = l .before .before in
-    let f = m .before in
-    let u = f .before in
-    let e = u .before .before in
-    correct-changed _ _ _ _ (e .before .written .ensures) (e .if1 .left) _ (u .before .fault .ensures) _ (u .correction .ensures) (f .if2 .left)
-    _ (m .new-place .ensures) _ (l .flip .ensures) _ (c .counted .ensures)
+    let p = l .before .before in
+    let n = p .before in
+    let u = n .before in
+    let f = u .before in
+    let i = f .before .before in
+    let q = i .before in
+    let g = q .before .before .before .args in
+    correct-changed (g .«record») (g .word .now) (g .out .now) _ (q .received .ensures .0) (i .if1 .left) _ (told f) _ (u .correction .ensures) (n .if2 .left)
+    _ (p .new-place .ensures) _ (l .flip .ensures) _ (c .counted .ensures)
 
 pub correct-spec : {M : Type 1} → statement M
 correct-spec =
     tie.close
     (tie.spec
-    written-requires
+    received-requires
     returns
     fault-requires
     correction-requires

@@ -1,100 +1,65 @@
--- `coding::encode` meets its contract: nothing, or the message and its check digits. Assumes nothing.
+-- `coding::encode` meets its contract. Assumes nothing.
 use borrow.Author.Needs.{needs}
-use mathlib.Core.Path.{ap, _∙_}
-use native.Mathlib.Omega.{arith}
-use Rattle.group_theory.specs.Group.{negative}
-use Rattle.layout_theory.proofs.Parameters.{Known, known, sizes-known}
-use Rattle.words_theory.specs.Calls.{encodeFor}
-use Rattle.loops_theory.proofs.Answers.{unadmitted, holds-message, encode-other, encode-short, encode-whole, copied-length}
+use mathlib.Core.Path.{_≡_, sym, _∙_}
+use mathlib.Core.Bool.{true}
+use Prim.Native.Nat.{_-_}
+use borrow.Author.Tests.{leb-true}
+use lib.Dec.{leb}
+use lib.ListN.{length}
+use Rattle.layout_theory.specs.Parameters.{placesOf}
+use Rattle.shortened_theory.specs.Calls.{fitsMessage}
+use Rattle.shortened_theory.proofs.Guards.{message-fits}
+use Rattle.loops_theory.proofs.ByFilling.{message-allowed, room-there, no-room, encode-none, encode-narrow, encode-fits}
 use Rattle.coding.proofs.encode.Statement.{statement}
 use Rattle.coding.proofs.encode.Tie as tie
 
-shape-of-requires : tie.Need-shape-of-requires
-shape-of-requires c κs = search needs
+-- past the first test the message is one of the code, and past the second there is room for a word
+fit : (c : tie.Then1) → let g = c .before .before .before .before .args in fitsMessage (g .t) (g .r) (g .s) (length (g .message .now)) ≡ true
+fit c = sym (c .before .fits-message .ensures) ∙ c .if1 .taken
 
-cast-places : tie.Need-cast-places
-cast-places c = search needs
+room : (c : tie.Then2) → let g = c .before .before .before .before .before .before .args in leb (placesOf (g .t) - g .s) (length (g .out .now)) ≡ true
+room c = room-there _ _ _ _ _ (c .before .has-room .ensures) (c .if2 .taken)
 
-cast-binary : tie.Need-cast-binary
-cast-binary c = search needs
+fits-message-requires : tie.Need-fits-message-requires
+fits-message-requires c κs = search needs
 
-cast-front : tie.Need-cast-front
-cast-front c = search needs
+has-room-requires : tie.Need-has-room-requires
+has-room-requires c κs = search needs
 
-returns : tie.Need-returns
-unfolding encodeFor
-returns c = unadmitted _ _ _ _ _ _ (c .before .before .before .before .shape-of .ensures) (c .if1 .taken)
-
--- past the first test the parameters are admitted
-shaped : (c : tie.Else1) → Known (c .before .before .before .before .before .before .before .args .t) (c .before .before .before .before .before .before .before .args .r) (c .before .before .before .before .shape-of .result)
-shaped c = known _ _ _ (c .before .before .before .before .shape-of .ensures) (let h = c .if1 .left in omega arith)
-
-returns-2 : tie.Need-returns-2
-returns-2 c = encode-other _ _ _ _ _ (shaped (c .before)) (c .if2 .taken)
-
-returns-3 : tie.Need-returns-3
-returns-3 c = encode-short _ _ _ _ _ (shaped (c .before .before)) (c .if3 .taken)
-
-add-message-sum : tie.Need-add-message-sum
-add-message-sum c = search needs
-
-sub-message-sum : tie.Need-sub-message-sum
-sub-message-sum c = let z = sizes-known _ _ _ (shaped (c .before .before)) in omega (arith, z .part)
-
-message-sum-requires : tie.Need-message-sum-requires
-message-sum-requires c κs =
-    let l = c .before .if2 .left in
-    holds-message _ _ _ _ (shaped (c .before .before)) (omega arith)
-
-neg-requires : tie.Need-neg-requires
-neg-requires c κs = search needs
-
-copy-requires : tie.Need-copy-requires
-copy-requires c κs =
-    let q = c .before .before .before in
-    let z = sizes-known _ _ _ (shaped (q .before .before)) in
-    let l = q .before .if2 .left in
-    let h = q .if3 .left in
-    omega (arith, z .check)
-
-write-requires : tie.Need-write-requires
-write-requires c κs =
-    let q = c .before .before .before .before .before .before .before in
-    let z = sizes-known _ _ _ (shaped (q .before .before)) in
-    let l = q .before .if2 .left in
-    let h = q .if3 .left in
-    let k = z .check in
-    let g = q .before .before .before .before .before .before .before .before .before .args in
-    let d = copied-length (g .message .now) (g .out .now) _ (omega arith) (c .before .before .before .copy .ensures) in
-    (z .room, omega arith)
+encode-fit-requires : tie.Need-encode-fit-requires
+encode-fit-requires c κs = let t = c .before in (message-fits _ _ _ _ (fit (t .before .before)), leb-true _ _ (room t))
 
 same-length : tie.Need-same-length
 same-length c = search needs
 
-returns-4 : tie.Need-returns-4
-returns-4 c =
-    let q = c .before .before .before .before .before .before .before .before .before .before in
-    let e = q .before .if2 .left in
-    let n = c .before .before .before .before .before .before .before .before in
-    c .before .before .write .ensures
-    ∙ encode-whole _ _ _ _ _ (shaped (q .before .before)) e (q .if3 .left) _ (n .neg .ensures ∙ ap (negative _) (n .before .message-sum .ensures)) _ (c .before .before .before .before .before .before .copy .ensures)
+returns : tie.Need-returns
+returns c =
+    let q = c .before .before in
+    let t = q .before .before in
+    let g = t .before .before .before .before .before .before .args in
+    encode-fits _ _ _ (g .message .now) (g .out .now) (fit (t .before .before)) (room t) _ _ (q .encode-fit .ensures .0) (q .encode-fit .ensures .1)
+
+returns-2 : tie.Need-returns-2
+returns-2 c =
+    let h = c .before in
+    let t = h .before in
+    let g = t .before .before .before .before .args in
+    let n = no-room _ _ _ _ _ (h .has-room .ensures) (message-allowed _ _ _ _ (fit t)) (c .if2 .left) in
+    encode-narrow _ _ _ (g .message .now) (g .out .now) (fit t) n
+
+returns-3 : tie.Need-returns-3
+returns-3 c =
+    let g = c .before .before .before .before .args in
+    encode-none _ _ _ (g .message .now) (g .out .now) (sym (c .before .fits-message .ensures) ∙ c .if1 .left)
 
 pub encode-spec : {M : Type 1} → statement M
 encode-spec =
     tie.close
     (tie.spec
-    shape-of-requires
-    cast-places
-    cast-binary
-    cast-front
+    fits-message-requires
+    has-room-requires
+    encode-fit-requires
+    same-length
     returns
     returns-2
-    returns-3
-    add-message-sum
-    sub-message-sum
-    message-sum-requires
-    neg-requires
-    copy-requires
-    write-requires
-    same-length
-    returns-4)
+    returns-3)

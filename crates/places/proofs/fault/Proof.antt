@@ -1,53 +1,39 @@
 -- `places::fault` meets its contract: 0, or the place told from the syndrome. Assumes nothing.
 use borrow.Author.Needs.{needs}
-use mathlib.Core.Path.{sym, _∙_}
+use mathlib.Core.Path.{_≡_, sym, _∙_}
+use mathlib.Core.Bool.{true}
 use native.Mathlib.Omega.{arith}
-use Rattle.layout_theory.proofs.Parameters.{Known, known}
-use Rattle.loops_theory.proofs.Answers.{syndrome-long}
-use Rattle.loops_theory.proofs.Faults.{fault-nowhere, fault-short, fault-whole}
+use lib.ListN.{length}
+use Rattle.shortened_theory.specs.Calls.{fitsWord}
+use Rattle.loops_theory.proofs.ByFilling.{word-allowed, cut-for, word-enough, fault-at, fault-at-none}
 use Rattle.places.proofs.fault.Statement.{statement}
 use Rattle.places.proofs.fault.Tie as tie
+
+fit : (c : tie.Then1) → let g = c .before .before .before .args in fitsWord (g .t) (g .r) (g .s) (length (g .word .now)) ≡ true
+fit c = sym (c .before .fits-word .ensures) ∙ c .if1 .taken
+
+fits-word-requires : tie.Need-fits-word-requires
+fits-word-requires c κs = search needs
 
 shape-of-requires : tie.Need-shape-of-requires
 shape-of-requires c κs = search needs
 
-cast-n : tie.Need-cast-n
-cast-n c = search needs
-
-returns : tie.Need-returns
-returns c = fault-nowhere _ _ _ _ (c .before .before .shape-of .ensures) (c .if1 .taken)
-
--- past the first test the parameters are admitted
-shaped : (c : tie.Else1)
-    → let s = c .before .before in Known (s .before .before .args .t) (s .before .before .args .r) (s .shape-of .result)
-shaped c = known _ _ _ (c .before .before .shape-of .ensures) (let h = c .if1 .left in omega arith)
-
-returns-2 : tie.Need-returns-2
-returns-2 c = fault-short _ _ _ _ (shaped (c .before)) (c .if2 .taken)
-
-syndrome-requires : tie.Need-syndrome-requires
-syndrome-requires c κs = search needs
-
 fault-of-requires : tie.Need-fault-of-requires
 fault-of-requires c κs =
-    let q = c .before in
-    let s = q .before .before .before in
-    let h = q .before .if1 .left in
-    (s .shape-of .ensures, omega arith, q .if2 .left, c .syndrome .ensures ∙ sym (syndrome-long _ _ _ _ (shaped (q .before)) (q .if2 .left)))
+    let y = fit (c .before) in
+    let e = c .shape-of .ensures in
+    let a = word-allowed _ _ _ _ y in
+    let h = word-enough _ _ _ _ e a _ y in
+    (e, cut-for _ _ _ _ e a, omega arith)
 
-returns-3 : tie.Need-returns-3
-returns-3 c =
-    let q = c .before .before in
-    c .fault-of .ensures ∙ fault-whole _ _ _ _ (shaped (q .before)) (q .if2 .left)
+returns : tie.Need-returns
+returns c =
+    let t = c .before .before in
+    c .fault-of .ensures ∙ fault-at _ _ _ _ (t .before .before .before .args .word .now) (fit t)
+
+returns-2 : tie.Need-returns-2
+returns-2 c = fault-at-none _ _ _ _ (c .before .before .before .args .word .now) (sym (c .before .fits-word .ensures) ∙ c .if1 .left)
 
 pub fault-spec : {M : Type 1} → statement M
 fault-spec =
-    tie.close
-    (tie.spec
-    shape-of-requires
-    cast-n
-    returns
-    returns-2
-    syndrome-requires
-    fault-of-requires
-    returns-3)
+    tie.close (tie.spec fits-word-requires shape-of-requires fault-of-requires returns returns-2)

@@ -8,7 +8,7 @@ use Rattle.layout_theory.specs.Parameters.{placesOf}
 use Rattle.shortened_theory.specs.Calls.{allowedFor, isShortenedPlace}
 use Rattle.shortened_theory.proofs.Places.{place-by, place-sum, third-none, third-first, third-second, third-old}
 use Rattle.shortened_theory.proofs.Guards.{allowed-both, still, places-are}
-use Rattle.loops_theory.proofs.Filled.{places-room}
+use Rattle.loops_theory.proofs.Answers.{places-room}
 use Rattle.shortened.proofs.third.Statement.{statement}
 use Rattle.shortened.proofs.third.Tie as tie
 

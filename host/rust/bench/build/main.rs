@@ -1,5 +1,6 @@
-//! Compiles the program by tables (host/c/table.c), makes the copies of the library, and notes,
-//! for the head of the report, which compilers and flags made the three programs.
+//! Compiles the program by tables (host/c/table.c), makes the copies of the libraries, and notes,
+//! for the head of each report, which compilers and flags made the programs. The binary `bench` is
+//! linked with libz2z4.a and the tables, `passes` with libtimed.a, which stands beside it.
 
 mod copies;
 
@@ -8,6 +9,13 @@ use std::fs;
 use std::path::{Path, PathBuf};
 use std::process::Command;
 
+const CALLS: [&str; 4] = [
+    "z2z4_encode",
+    "z2z4_correct",
+    "z2z4_combine",
+    "z2z4_third_place",
+];
+const TIMED: [&str; 3] = ["timed_correct", "timed_two_passes", "timed_encode"];
 const FLAGS: [&str; 2] = ["-std=c99", "-O3"];
 /// Where the code of the program by tables stands, see `copies::place`. Its times move too: of the
 /// offsets that a linker can choose this was the quickest when they were tried, for every call but
@@ -18,13 +26,12 @@ fn main() {
     let cc = env::var("CC").unwrap_or_else(|_| "cc".into());
     println!("cargo::rerun-if-env-changed=CC");
     let library = PathBuf::from(env::var("DEP_Z2Z4_LIBRARY").expect("set by the crate calls"));
-    println!("cargo::rerun-if-changed={}", library.display());
-    match objects(&cc, &library) {
-        Err(problem) => println!("cargo::error={problem}"),
-        Ok(objects) => objects
-            .iter()
-            .for_each(|object| println!("cargo::rustc-link-arg={}", object.display())),
+    let timed = library.with_file_name("libtimed.a");
+    for file in [&library, &timed] {
+        println!("cargo::rerun-if-changed={}", file.display());
     }
+    link("bench", programs(&cc, &library));
+    link("passes", corrections(&cc, &timed));
     let rustc = env::var("RUSTC").expect("set by cargo");
     let level = env::var("OPT_LEVEL").expect("set by cargo");
     note("BENCH_CC", &format!("{} {}", version(&cc), FLAGS.join(" ")));
@@ -33,14 +40,38 @@ fn main() {
         &format!("{} opt-level={level}", version(&rustc)),
     );
     note("BENCH_LIBRARY", &maker(&library));
+    note("BENCH_TIMED", &maker(&timed));
 }
 
-/// What the benchmark is linked with.
-fn objects(cc: &str, library: &Path) -> Result<Vec<PathBuf>, String> {
-    let folder = PathBuf::from(env::var("OUT_DIR").expect("set by cargo"));
-    let mut objects = copies::make(cc, library, &folder)?;
-    objects.push(compile(cc, &folder)?);
+fn link(binary: &str, objects: Result<Vec<PathBuf>, String>) {
+    match objects {
+        Err(problem) => println!("cargo::error={problem}"),
+        Ok(objects) => objects
+            .iter()
+            .for_each(|object| println!("cargo::rustc-link-arg-bin={binary}={}", object.display())),
+    }
+}
+
+fn folder() -> PathBuf {
+    PathBuf::from(env::var("OUT_DIR").expect("set by cargo"))
+}
+
+/// What `bench` is linked with.
+fn programs(cc: &str, library: &Path) -> Result<Vec<PathBuf>, String> {
+    let mut objects = copies::make(cc, library, &CALLS, &folder())?;
+    objects.push(compile(cc, &folder())?);
     Ok(objects)
+}
+
+/// What `passes` is linked with.
+fn corrections(cc: &str, timed: &Path) -> Result<Vec<PathBuf>, String> {
+    if !timed.is_file() {
+        let name = timed.display();
+        return Err(format!(
+            "there is no {name}: `rt staticlib timed` builds it"
+        ));
+    }
+    copies::make(cc, timed, &TIMED, &folder())
 }
 
 /// The program by tables.

@@ -10,7 +10,8 @@ mod programs;
 mod report;
 mod samples;
 
-use measure::{Cell, Effort, Figures, Programs};
+use bench::turns::{Effort, FULL, QUICK};
+use measure::{Cell, Figures, Programs};
 use samples::OPERATIONS;
 use std::env;
 use std::fs;
@@ -21,17 +22,6 @@ const USAGE: &str = "usage: bench [--quick] [--csv FILE] [--plot FILE]";
 const FOLDER: &str = concat!(env!("CARGO_MANIFEST_DIR"), "/../../../target/host");
 /// The t that are timed, each with every r: 3 shows what a call costs whatever the length.
 const LENGTHS: [u32; 6] = [3, 4, 6, 8, 10, 12];
-const FULL: Effort = Effort {
-    passes: 24,
-    batches: 6,
-    batch_ns: 300_000.0,
-};
-/// Enough to see that everything runs, not for figures.
-const QUICK: Effort = Effort {
-    passes: 1,
-    batches: 3,
-    batch_ns: 1_000.0,
-};
 
 struct Asked {
     effort: Effort,

@@ -1,14 +1,14 @@
-//! Times each operation on each code by the three programs in turn, batch by batch, so that what
-//! disturbs the machine for a moment disturbs all three alike. What disturbs it for seconds is
-//! met by all operations, since they take turns too: a run passes over all of them several times.
-//! In each pass an operation is timed with every copy of the library.
+//! Times each operation on each code by the three programs in turn, batch by batch. Operations
+//! take turns too: in each pass an operation is timed with every copy of the library.
 
 use crate::copies::COPIES;
 use crate::programs::{Library, Program, Table};
-use crate::samples::{Operation, Sample, SAMPLES};
+use crate::samples::{Operation, Sample};
+use bench::spread::{by_copy, spread, Spread};
+use bench::turns::{self, in_turn, rounds};
+use bench::words::SAMPLES;
 use second::Code;
 use std::hint::black_box;
-use std::time::Instant;
 
 /// The three programs on one code, everything that is built once built.
 pub struct Programs {
@@ -20,24 +20,6 @@ pub struct Programs {
 
 /// Of the library, the second program and the program by tables, in this order.
 type Each<T> = [T; 3];
-
-/// How long to measure.
-#[derive(Clone, Copy)]
-pub struct Effort {
-    pub passes: usize,
-    /// For each operation and each copy of the library in each pass.
-    pub batches: usize,
-    /// A batch goes through the samples until it has taken about this long.
-    pub batch_ns: f64,
-}
-
-/// The median over the batches, and the quartiles around it.
-#[derive(Clone, Copy)]
-pub struct Spread {
-    pub low: f64,
-    pub median: f64,
-    pub high: f64,
-}
 
 /// Nanoseconds a call, and the ratios batch by batch, over all copies of the library.
 pub struct Figures {
@@ -112,8 +94,8 @@ impl<'a> Cell<'a> {
             turns: vec![],
         };
         let short = cell.turn(0, 0);
-        let rounds = |a_call: f64| (batch_ns / (a_call * SAMPLES as f64)).ceil() as usize;
-        cell.rounds = short.times.map(rounds);
+        let enough = |a_call: f64| rounds(batch_ns, SAMPLES, a_call);
+        cell.rounds = short.times.map(enough);
         cell
     }
 
@@ -122,7 +104,7 @@ impl<'a> Cell<'a> {
         for program in 1..3 {
             self.batch(program, 0, 1);
         }
-        for copy in (0..COPIES.len()).map(|i| (pass + i) % COPIES.len()) {
+        for copy in in_turn(pass, COPIES.len()) {
             self.batch(0, copy, 1);
             for first in 0..batches {
                 let turn = self.turn(copy, first);
@@ -134,7 +116,7 @@ impl<'a> Cell<'a> {
     /// The programs in their order, which begins by `first` and goes round.
     fn turn(&self, copy: usize, first: usize) -> Turn {
         let mut times = [0.0; 3];
-        for program in (0..3).map(|i| (first + i) % 3) {
+        for program in in_turn(first, 3) {
             times[program] = self.batch(program, copy, self.rounds[program]);
         }
         Turn { copy, times }
@@ -158,6 +140,8 @@ impl<'a> Cell<'a> {
     pub fn figures(self) -> Figures {
         let code = &self.programs.second;
         let all = |figure: fn(&Turn) -> f64| spread(self.turns.iter().map(figure).collect());
+        let ratio = |turn: &Turn| (turn.copy, to_table(turn));
+        let ratios: Vec<_> = self.turns.iter().map(ratio).collect();
         Figures {
             t: code.t(),
             r: code.r(),
@@ -168,21 +152,13 @@ impl<'a> Cell<'a> {
             table: all(|turn| turn.times[2]),
             to_table: all(to_table),
             to_second: all(|turn| turn.times[0] / turn.times[1]),
-            copies: by_copy(&self.turns),
+            copies: by_copy(&ratios),
         }
     }
 }
 
 fn to_table(turn: &Turn) -> f64 {
     turn.times[0] / turn.times[2]
-}
-
-/// The median ratio to the tables of each copy alone.
-fn by_copy(turns: &[Turn]) -> [f64; COPIES.len()] {
-    std::array::from_fn(|copy| {
-        let its = turns.iter().filter(|turn| turn.copy == copy);
-        spread(its.map(to_table).collect()).median
-    })
 }
 
 fn outcome<P: Program>(
@@ -203,44 +179,15 @@ fn batch<P: Program>(
     out: &mut [u8],
     rounds: usize,
 ) -> f64 {
-    let start = Instant::now();
-    for _ in 0..rounds {
-        for sample in samples {
-            black_box(operation.call(program, black_box(sample), black_box(&mut *out)));
-        }
-    }
-    start.elapsed().as_nanos() as f64 / (rounds * samples.len()) as f64
-}
-
-fn spread(mut values: Vec<f64>) -> Spread {
-    values.sort_by(f64::total_cmp);
-    let at = |quarter: usize| values[(values.len() - 1) * quarter / 4];
-    Spread {
-        low: at(1),
-        median: at(2),
-        high: at(3),
-    }
+    // Without `move` the shortest call, the tables' third place, was seen to take a tenth longer.
+    turns::batch(samples, rounds, move |sample| {
+        black_box(operation.call(program, sample, black_box(&mut *out)));
+    })
 }
 
 #[cfg(test)]
 mod tests {
     use super::*;
-
-    #[test]
-    fn quartiles_of_unsorted_values() {
-        let Spread { low, median, high } = spread(vec![5.0, 1.0, 4.0, 2.0, 3.0]);
-        assert_eq!([low, median, high], [2.0, 3.0, 4.0]);
-    }
-
-    #[test]
-    fn ratios_by_copy() {
-        let turn = |(copy, ours)| Turn {
-            copy,
-            times: [ours, 0.0, 2.0],
-        };
-        let times = [(0, 2.0), (3, 9.0), (1, 4.0), (2, 6.0), (3, 8.0), (3, 7.0)];
-        assert_eq!(by_copy(&times.map(turn)), [1.0, 2.0, 3.0, 4.0]);
-    }
 
     #[test]
     #[should_panic(expected = "copy 3")]

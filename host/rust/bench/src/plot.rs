@@ -1,7 +1,8 @@
 //! The figures as a plot: cost against length, both on logarithmic axes, as SVG.
 
-use crate::measure::{Figures, Spread};
+use crate::measure::Figures;
 use crate::samples::Operation;
+use bench::spread::Spread;
 use std::fmt::Write;
 
 const WIDTH: f64 = 940.0;

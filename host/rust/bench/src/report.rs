@@ -1,10 +1,13 @@
 //! The figures as text and as comma-separated values.
 
 use crate::copies::COPIES;
-use crate::measure::{Effort, Figures, Spread};
+use crate::measure::Figures;
 use crate::programs::Table;
-use crate::samples::{Operation, SAMPLES};
-use std::fs;
+use crate::samples::Operation;
+use bench::spread::ends;
+use bench::text::{nanoseconds, processor, ratio};
+use bench::turns::Effort;
+use bench::words::SAMPLES;
 
 const INCLUDED: &str = "\
 Included in every time: all checks of the input, writing the whole word where one is written,
@@ -18,13 +21,6 @@ Where code stands moves its times. So the library stands in this binary several 
 figures are over all copies; \"copies\" has the lowest and the highest of their median ratios to
 the tables. The program by tables stands once, at the same offset in every binary, and the second
 program once, where the linker puts it. Bytes from a multiple of 64 to where the calls begin:";
-
-fn processor() -> String {
-    let info = fs::read_to_string("/proc/cpuinfo").unwrap_or_default();
-    let line = info.lines().find(|line| line.starts_with("model name"));
-    let name = line.and_then(|line| line.split(':').nth(1));
-    name.map_or("unknown".into(), |name| name.trim().to_owned())
-}
 
 pub fn print_head(effort: Effort) {
     println!("Nanoseconds a call: the library, the second program and a program by tables.");
@@ -55,27 +51,6 @@ fn print_offsets() {
     line("tables", Table::addresses());
 }
 
-/// Few digits where they would be noise.
-fn nanoseconds(spread: Spread) -> String {
-    let Spread { low, median, high } = spread;
-    let digits = usize::from(median < 100.0);
-    format!("{median:.digits$} [{low:.digits$} {high:.digits$}]")
-}
-
-fn ratio(spread: Spread) -> String {
-    let Spread { low, median, high } = spread;
-    format!("{median:.2} [{low:.2} {high:.2}]")
-}
-
-/// The lowest and the highest of the copies' ratios.
-fn ends(figures: &Figures) -> (f64, f64) {
-    let ratios = figures.copies.into_iter();
-    (
-        ratios.clone().fold(f64::MAX, f64::min),
-        ratios.fold(0.0, f64::max),
-    )
-}
-
 pub fn print(all: &[Figures]) {
     println!(
         "\n{:2} {:2} {:4} {:31} {:>22} {:>22} {:>22} {:>20} {:>18} {:>20}",
@@ -91,7 +66,7 @@ pub fn print(all: &[Figures]) {
         "library/second"
     );
     for figures in all {
-        let (lowest, highest) = ends(figures);
+        let (lowest, highest) = ends(figures.copies);
         println!(
             "{:2} {:2} {:4} {:31} {:>22} {:>22} {:>22} {:>20} {:>18} {:>20}",
             figures.t,
@@ -129,13 +104,13 @@ fn print_growth(all: &[Figures]) {
 /// How far one copy speaks for another.
 fn print_between(all: &[Figures]) {
     let percent = |figures: &Figures| {
-        let (lowest, highest) = ends(figures);
+        let (lowest, highest) = ends(figures.copies);
         100.0 * (highest / lowest - 1.0)
     };
     let mut rows: Vec<&Figures> = all.iter().collect();
     rows.sort_by(|x, y| percent(x).total_cmp(&percent(y)));
     let (middle, most) = (rows[rows.len() / 2], rows[rows.len() - 1]);
-    let (lowest, highest) = ends(most);
+    let (lowest, highest) = ends(most.copies);
     println!(
         "\nFrom the lowest copy to the highest: {:.1} % or less in half of the rows,\n\
          {:.1} % at most (t = {}, r = {}, {}: {lowest:.2} to {highest:.2} times the tables).",

@@ -1,11 +1,9 @@
 //! What is timed: the operations, and the inputs that each takes in turn.
 
 use crate::programs::Program;
+use bench::words::{codeword, SAMPLES};
 use second::draw::Draw;
 use second::Code;
-
-/// Different inputs for each operation, so that the processor cannot learn one by heart.
-pub const SAMPLES: usize = 64;
 
 #[derive(Debug, Clone, Copy, PartialEq, Eq)]
 pub enum Operation {
@@ -88,12 +86,6 @@ impl Operation {
             places,
         }
     }
-}
-
-fn codeword(code: &Code, message: &[u8]) -> Vec<u8> {
-    let mut word = vec![0; code.length()];
-    code.encode(message, &mut word).expect("a fit message");
-    word
 }
 
 /// The index of a random binary place, or of a random place in a pair.

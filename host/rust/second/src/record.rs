@@ -55,13 +55,22 @@ impl Record {
         others.into_iter().map(u64::from).sum::<u64>() == u64::from(self.words)
     }
 
-    /// Correction, with the record counted on. 23 comes after every other reason, so it is
-    /// known only when a codeword is there, and the output still has to stay as it was.
+    /// Correction, with the record counted on.
     pub fn correct(&self, word: &[u8], out: &mut [u8]) -> Result<(u32, Record), Refusal> {
-        let code = self.code()?;
+        self.correct_in(&self.code()?, word, out)
+    }
+
+    /// The same with the record's code at hand. 23 comes after every other reason, so it is
+    /// known only when a codeword is there, and the output still has to stay as it was.
+    pub fn correct_in(
+        &self,
+        code: &Code,
+        word: &[u8],
+        out: &mut [u8],
+    ) -> Result<(u32, Record), Refusal> {
         let mut written = out.to_vec();
         let place = code.correct(word, &mut written)?;
-        let counted = self.counted(&code, place)?;
+        let counted = self.counted(code, place)?;
         out.copy_from_slice(&written);
         Ok((place, counted))
     }

@@ -1,43 +1,57 @@
 -- `coding::check::read` meets its contract: each turn reads one component. Assumes nothing.
 use borrow.Author.Needs.{needs}
+use mathlib.Core.Path.{_≡_, subst}
 use mathlib.Core.Logic.{⊎-elim}
-use Prim.Native.Nat.{_-_}
+use Prim.Native.Nat.{ℕ, _+_, _-_, _*_}
+use native.Mathlib.Omega.{arith}
+use lib.Dec.{leb}
+use Rattle.loops_theory.specs.Passing.{Highest, Says}
 use Rattle.loops_theory.proofs.Checking.{Seen, seen-start, seen-end, seen-two, seen-four, seen-one}
+use Rattle.loops_theory.proofs.Passing.{highest-none, highest-step, highest-steps, highest-says, says-tells}
 use Rattle.coding.proofs.check.read.Statement.{statement}
 use Rattle.coding.proofs.check.read.Tie as tie
 
 abbrev Inv-loop : tie.InvT-loop
-Inv-loop a b word start e₀ at₀ i₀ e at i = Seen a b word start e at i
+Inv-loop a b word start e₀ most₀ at₀ i₀ e most at i = Seen a b word start e at i × Highest word start at most
 
 abbrev μ-loop : tie.MeasureT-loop
-μ-loop a b word start e₀ at₀ i₀ e at i = 12 - i
+μ-loop a b word start e₀ most₀ at₀ i₀ e most at i = 12 - i
 
 loop-holds : tie.Need-loop-holds Inv-loop μ-loop
-loop-holds c = seen-start _ _ _ _
+loop-holds c = (seen-start _ _ _ _, highest-none _ _)
 
-shared-slice-read-e : tie.Need-shared-slice-read-e Inv-loop μ-loop
-shared-slice-read-e c = search needs
+shared-slice-read-x : tie.Need-shared-slice-read-x Inv-loop μ-loop
+shared-slice-read-x c = search needs
 
 array-write-e : tie.Need-array-write-e Inv-loop μ-loop
 array-write-e c = search needs
 
+larger-requires : tie.Need-larger-requires Inv-loop μ-loop
+larger-requires c κs = search needs
+
 add-at : tie.Need-add-at Inv-loop μ-loop
 add-at c = search needs
 
-shared-slice-read-digit : tie.Need-shared-slice-read-digit Inv-loop μ-loop
-shared-slice-read-digit c = search needs
+shared-slice-read-x-2 : tie.Need-shared-slice-read-x-2 Inv-loop μ-loop
+shared-slice-read-x-2 c = search needs
 
-add-digit : tie.Need-add-digit Inv-loop μ-loop
-add-digit c = search needs
+add-y : tie.Need-add-y Inv-loop μ-loop
+add-y c = search needs
 
-shared-slice-read-digit-2 : tie.Need-shared-slice-read-digit-2 Inv-loop μ-loop
-shared-slice-read-digit-2 c = search needs
+shared-slice-read-y : tie.Need-shared-slice-read-y Inv-loop μ-loop
+shared-slice-read-y c = search needs
 
 digit-requires : tie.Need-digit-requires Inv-loop μ-loop
 digit-requires c κs = search needs
 
 array-write-e-2 : tie.Need-array-write-e-2 Inv-loop μ-loop
 array-write-e-2 c = search needs
+
+larger-requires-2 : tie.Need-larger-requires-2 Inv-loop μ-loop
+larger-requires-2 c κs = search needs
+
+larger-requires-3 : tie.Need-larger-requires-3 Inv-loop μ-loop
+larger-requires-3 c κs = search needs
 
 add-at-2 : tie.Need-add-at-2 Inv-loop μ-loop
 add-at-2 c = search needs
@@ -55,14 +69,34 @@ loop-again : tie.Need-loop-again Inv-loop μ-loop
 loop-again c =
     let l = c .before .before in
     let h = c .before .loop-test .taken in
-    ⊎-elim (λ w. rw (w .2, w .3) (seen-two _ _ _ _ _ _ _ (l .loop .inv) h (w .0 .taken)))
+    let i = l .loop .inv in
+    let p = i .0 .place in
+    ⊎-elim
+    (λ w. (
+      rw (w .3, w .5) (seen-two _ _ _ _ _ _ _ (i .0) h (w .0 .taken)),
+      rw (w .4, w .5) (highest-step _ _ _ _ _ (omega arith) (i .1) (w .2 .ensures)),
+    ))
     (⊎-elim
-    (λ w. rw (w .5, w .6, w .4 .ensures) (seen-four _ _ _ _ _ _ _ (l .loop .inv) h (w .0 .left) (w .1 .taken)))
-    (λ w. rw (w .2, w .3) (seen-one _ _ _ _ _ _ _ (l .loop .inv) h (w .0 .left) (w .1 .left))))
+    (λ w. (
+      rw (w .7, w .9, w .4 .ensures) (seen-four _ _ _ _ _ _ _ (i .0) h (w .0 .left) (w .1 .taken)),
+      rw (w .8, w .9) (highest-steps _ _ _ _ _ _ (omega arith) (i .1) (w .5 .ensures) (w .6 .ensures)),
+    ))
+    (λ w. (rw (w .2, w .4) (seen-one _ _ _ _ _ _ _ (i .0) h (w .0 .left) (w .1 .left)), rw (w .3, w .4) (i .1))))
     (c .if1 .came)
 
 returns : tie.Need-returns Inv-loop μ-loop
-returns c = seen-end _ _ _ _ _ _ _ (c .before .loop .inv) (c .loop-test .left)
+returns c =
+    let l = c .before in
+    let b = l .before .before in
+    let w = b .args .word .now in
+    let i = l .loop .inv in
+    let p = i .0 .place in
+    let h = c .loop-test .left in
+    let k = b .pre .0 in
+    let e : l .loop .at ≡ b .args .start + (b .args .a + 2 * b .args .b) = omega arith in (
+      says-tells w (b .args .start) (b .args .start + (b .args .a + 2 * b .args .b)) (leb (l .loop .most) 1) (subst (λ (n : ℕ). Says (leb (l .loop .most) 1) w (b .args .start) n) e (highest-says w _ _ _ (i .1))),
+      seen-end _ _ _ _ _ _ _ (i .0) h,
+    )
 
 pub read-spec : {M : Type 1} → statement M
 read-spec =
@@ -71,14 +105,17 @@ read-spec =
     Inv-loop
     μ-loop
     loop-holds
-    shared-slice-read-e
+    shared-slice-read-x
     array-write-e
+    larger-requires
     add-at
-    shared-slice-read-digit
-    add-digit
-    shared-slice-read-digit-2
+    shared-slice-read-x-2
+    add-y
+    shared-slice-read-y
     digit-requires
     array-write-e-2
+    larger-requires-2
+    larger-requires-3
     add-at-2
     array-write-e-3
     add-i

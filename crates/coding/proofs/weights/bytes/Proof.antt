@@ -1,66 +1,59 @@
--- `coding::weights::bytes` meets its contract. Assumes nothing.
+-- `coding::weights::bytes` meets its contract: what is left out, and what is kept. Assumes nothing.
 use borrow.Author.Needs.{needs}
-use mathlib.Core.Bool.{false}
-use Prim.Native.Nat.{_-_}
+use mathlib.Core.Path.{refl, ap}
+use Prim.Native.Nat.{ℕ, _-_}
 use native.Mathlib.Omega.{arith}
-use lib.ListN.{drop}
-use Rattle.loops_theory.specs.Spread.{row}
-use Rattle.loops_theory.proofs.Laying.{Copying, copy-start, copy-step, length-row, byte-write, bytes-done}
+use Rattle.loops_theory.proofs.Rows.{bytes-cut}
 use Rattle.coding.proofs.weights.bytes.Statement.{statement}
 use Rattle.coding.proofs.weights.bytes.Tie as tie
 
-abbrev Inv-loop : tie.InvT-loop
-Inv-loop word at v₀ k n i₀ v i = Copying (row false n (drop at word)) v₀ k n v i
+minus-requires : tie.Need-minus-requires
+minus-requires c κs = search needs
 
-abbrev μ-loop : tie.MeasureT-loop
-μ-loop word at v₀ k n i₀ v i = n - i
+add-minus : tie.Need-add-minus
+add-minus c = search needs
 
-loop-holds : tie.Need-loop-holds Inv-loop μ-loop
-loop-holds c = let h = c .pre in let l = length-row false (c .args .n) (drop (c .args .at) (c .args .word .now)) in copy-start _ _ _ _ (omega arith) (omega arith)
+minus-requires-2 : tie.Need-minus-requires-2
+minus-requires-2 c κs = search needs
 
-add-v : tie.Need-add-v Inv-loop μ-loop
-add-v c = search needs
+sub-kept : tie.Need-sub-kept
+sub-kept c = search needs
 
-shared-slice-read-v : tie.Need-shared-slice-read-v Inv-loop μ-loop
-shared-slice-read-v c = search needs
+sub-left : tie.Need-sub-left
+sub-left c = search needs
 
-add-v-2 : tie.Need-add-v-2 Inv-loop μ-loop
-add-v-2 c = search needs
+zeros-requires : tie.Need-zeros-requires
+zeros-requires c κs = search needs
 
-slice-write-v : tie.Need-slice-write-v Inv-loop μ-loop
-slice-write-v c = search needs
+add-copy : tie.Need-add-copy
+add-copy c = search needs
 
-add-i : tie.Need-add-i Inv-loop μ-loop
-add-i c = search needs
+copy-requires : tie.Need-copy-requires
+copy-requires c κs = search needs
 
-loop-less : tie.Need-loop-less Inv-loop μ-loop
-loop-less c = search needs
-
-loop-again : tie.Need-loop-again Inv-loop μ-loop
-loop-again c =
-    let l = c .before in
-    let g = l .before .before .args in
-    copy-step _ _ _ _ _ _ _ (l .before .loop .inv) (l .loop-test .taken) (byte-write (g .word .now) (g .at) (g .n) _ (l .loop-test .taken))
-
-same-length : tie.Need-same-length Inv-loop μ-loop
+same-length : tie.Need-same-length
 same-length c = search needs
 
-returns : tie.Need-returns Inv-loop μ-loop
-returns c = let g = c .before .before .args in bytes-done (g .word .now) _ (g .at) _ (g .n) _ _ (c .before .loop .inv) (c .loop-test .left)
+returns : tie.Need-returns
+returns c =
+    let p = c .before .before in
+    let z = p .before .before .before .before in
+    let m = z .before .before in
+    let b = m .before .before .before .before in
+    let g = b .args in
+    bytes-cut (g .d) (g .at) (g .n) _ _ _ (g .word .now) (m .before .minus .ensures) (ap (λ (k : ℕ). k - m .before .minus .result) (m .minus2 .ensures)) refl (g .k) _ _ _ (z .zeros .ensures) (p .copy .ensures)
 
 pub bytes-spec : {M : Type 1} → statement M
 bytes-spec =
     tie.close
     (tie.spec
-    Inv-loop
-    μ-loop
-    loop-holds
-    add-v
-    shared-slice-read-v
-    add-v-2
-    slice-write-v
-    add-i
-    loop-less
-    loop-again
+    minus-requires
+    add-minus
+    minus-requires-2
+    sub-kept
+    sub-left
+    zeros-requires
+    add-copy
+    copy-requires
     same-length
     returns)

@@ -1,95 +1,85 @@
 -- `coding::weights::pairs` meets its contract. Assumes nothing.
 use borrow.Author.Needs.{needs}
-use Prim.Native.Nat.{_-_}
+use mathlib.Core.Path.{_≡_, refl, sym, subst}
+use mathlib.Core.Bool.{Bool, false≢true}
+use mathlib.Core.List.{List}
+use Prim.Native.Nat.{ℕ, _+_, _-_}
 use native.Mathlib.Omega.{arith}
-use Rattle.loops_theory.proofs.Laying.{Pairing, Segment, pairing-start, pairing-asks, pairing-step, pairing-done}
+use lib.Seq.{length-take-le}
+use Rattle.shortened_theory.specs.Code.{fill}
+use Rattle.loops_theory.specs.Spread.{messageIn}
+use Rattle.loops_theory.specs.Passing.{Tells}
+use Rattle.loops_theory.proofs.Laying.{SinglesRoom, room-for}
+use Rattle.loops_theory.proofs.Passing.{tells-pairs, laid-before}
 use Rattle.coding.proofs.weights.pairs.Statement.{statement}
 use Rattle.coding.proofs.weights.pairs.Tie as tie
 
-abbrev Inv-loop : tie.InvT-loop
-Inv-loop a b count part word v₀ p₀ e₀ at₀ j₀ v p e at j = Pairing a b part word v₀ v p e at j
+abbrev filled : tie.Start → List ℕ
+filled b = fill (b .args .d) (b .args .word .now)
 
-abbrev μ-loop : tie.MeasureT-loop
-μ-loop a b count part word v₀ p₀ e₀ at₀ j₀ v p e at j = b - j
+-- how many weights there are of each kind
+room-at : (b : tie.Start) → SinglesRoom (b .args .a) (b .args .b) (b .args .count) (b .args .part) (filled b) (b .pre .0 .message) (b .args .part + b .args .a + 1) (b .args .count - (b .args .part + b .args .a + 1))
+room-at b = room-for (b .args .a) (b .args .b) (b .args .count) (b .args .part) (filled b) (b .pre .0 .message) _ _ refl refl
 
-power-requires : tie.Need-power-requires Inv-loop μ-loop
-power-requires c κs = let h = c .before .before .pre .0 .few in omega arith
+-- what was found of the singles, where the test says x
+told : (b : tie.Start) (x : Bool) → b .args .one ≡ x → Tells x (filled b) 0 (b .args .part)
+told b x e = subst (λ (x : Bool). Tells x (filled b) 0 (b .args .part)) e (b .pre .2)
 
-loop-holds : tie.Need-loop-holds Inv-loop μ-loop
-loop-holds c = let b = c .before .before .before in pairing-start _ _ _ _ (b .args .word .now) (b .pre .0) _ _ (c .power .ensures) (b .pre .1)
+add-start : tie.Need-add-start
+add-start c = let R = room-at (c .before .before) in let h = (c .before .before) .pre .1 in search needs
 
--- what the next segment asks
-segment : (l : tie.In-loop Inv-loop μ-loop)
-    → let s = l .before .before .before .before .before in let v = l .before .loop in
-    Segment (s .args .a) (s .args .b) (s .args .count) (s .args .part) (s .args .word .now) (s .pre .0) (v .p) (v .e) (v .at) (v .j)
-segment l =
-    let s = l .before .before .before .before .before in
-    pairing-asks _ _ _ _ (s .args .word .now) (s .pre .0) _ _ _ _ _ _ (l .before .loop .inv) (l .loop-test .taken)
+add-start-2 : tie.Need-add-start-2
+add-start-2 c = let R = room-at (c .before .before) in let h = (c .before .before) .pre .1 in search needs
 
-mul-n : tie.Need-mul-n Inv-loop μ-loop
-mul-n c = let l = c in let S = segment l in let i = l .before .loop .inv in search needs
+sub-start : tie.Need-sub-start
+sub-start c = let R = room-at (c .before .before) in let h = (c .before .before) .pre .1 in search needs
 
-add-n : tie.Need-add-n Inv-loop μ-loop
-add-n c = let l = c in let S = segment l in let i = l .before .loop .inv in search needs
+slice-relend-prefix-good-pairs : tie.Need-slice-relend-prefix-good-pairs
+slice-relend-prefix-good-pairs c =
+    let b = c .before .before .before in
+    let R = room-at b in
+    let h = b .pre .1 in
+    search needs
 
-sub-n : tie.Need-sub-n Inv-loop μ-loop
-sub-n c = let l = c in let S = segment l in let i = l .before .loop .inv in search needs
+slice-aggregate-good-pairs : tie.Need-slice-aggregate-good-pairs
+slice-aggregate-good-pairs c = sym (length-take-le _ _ (slice-relend-prefix-good-pairs (c .before)))
 
-pair-segment-requires : tie.Need-pair-segment-requires Inv-loop μ-loop
-pair-segment-requires c κs = let l = c .before in let S = segment l in let i = l .before .loop .inv in search needs
+good-pairs-requires : tie.Need-good-pairs-requires
+good-pairs-requires c κs =
+    let b = c .before .before .before .before in
+    let R = room-at b in
+    let p = R .pairs in
+    let h = b .pre .1 in
+    let q = R .space in
+    let l = slice-aggregate-good-pairs c in
+    (b .pre .0, record { enough = omega arith; most = omega (arith, h .enough, h .most) })
 
-mul-at : tie.Need-mul-at Inv-loop μ-loop
-mul-at c = let l = c .before .before .before .before in let S = segment l in let i = l .before .loop .inv in search needs
-
-add-at : tie.Need-add-at Inv-loop μ-loop
-add-at c = let l = c .before .before .before .before in let S = segment l in let i = l .before .loop .inv in search needs
-
-mul-p : tie.Need-mul-p Inv-loop μ-loop
-mul-p c = let l = c .before .before .before .before in let S = segment l in let i = l .before .loop .inv in search needs
-
-add-p : tie.Need-add-p Inv-loop μ-loop
-add-p c = let l = c .before .before .before .before in let S = segment l in let i = l .before .loop .inv in search needs
-
-mul-e : tie.Need-mul-e Inv-loop μ-loop
-mul-e c = let l = c .before .before .before .before in let S = segment l in let i = l .before .loop .inv in search needs
-
-add-j : tie.Need-add-j Inv-loop μ-loop
-add-j c = search needs
-
-loop-less : tie.Need-loop-less Inv-loop μ-loop
-loop-less c = search needs
-
-loop-again : tie.Need-loop-again Inv-loop μ-loop
-loop-again c =
-    let l = c .before .before .before .before in
-    let b = l .before .before .before .before .before in
-    pairing-step _ _ _ _ (b .args .word .now) (b .pre .0) _ _ _ _ _ _ (l .before .loop .inv) (l .loop-test .taken) _ (search needs) (c .before .before .pair-segment .ensures)
-
-same-length : tie.Need-same-length Inv-loop μ-loop
+same-length : tie.Need-same-length
 same-length c = search needs
 
-returns : tie.Need-returns Inv-loop μ-loop
-returns c = let b = c .before .before .before .before .before in pairing-done _ _ _ _ (b .args .word .now) (b .pre .0) _ _ _ _ _ _ (c .before .loop .inv) (c .loop-test .left)
+returns : tie.Need-returns
+returns c =
+    let q = c .before .before in
+    let t = q .before .before in
+    let b = t .before .before .before in
+    let g = b .args in (
+      tells-pairs (filled b) (g .part) (messageIn (g .a) (g .b)) (q .good-pairs .result) (told b _ (t .if1 .taken)) (q .good-pairs .ensures .0),
+      λ z. laid-before _ _ _ _ (filled b) (b .pre .0 .message) _ _ (room-at b) _ _ _ (q .good-pairs .ensures .1 z) (b .pre .1) (same-length c),
+    )
+
+returns-2 : tie.Need-returns-2
+returns-2 c = (told (c .before .before .before) _ (c .if1 .left), λ e. absurd (false≢true e))
 
 pub pairs-spec : {M : Type 1} → statement M
 pairs-spec =
     tie.close
     (tie.spec
-    Inv-loop
-    μ-loop
-    power-requires
-    loop-holds
-    mul-n
-    add-n
-    sub-n
-    pair-segment-requires
-    mul-at
-    add-at
-    mul-p
-    add-p
-    mul-e
-    add-j
-    loop-less
-    loop-again
+    add-start
+    add-start-2
+    sub-start
+    slice-relend-prefix-good-pairs
+    slice-aggregate-good-pairs
+    good-pairs-requires
     same-length
-    returns)
+    returns
+    returns-2)

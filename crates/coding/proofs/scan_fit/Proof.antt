@@ -1,0 +1,104 @@
+-- `coding::scan_fit` meets its contract: the syndrome, or the lowest place of a byte above 1. Assumes nothing.
+use borrow.Author.Needs.{needs}
+use mathlib.Core.Path.{_≡_, subst}
+use mathlib.Core.Bool.{Bool}
+use Prim.Native.Nat.{ℕ, _+_}
+use native.Mathlib.Omega.{arith}
+use lib.ListN.{length}
+use Rattle.layout_theory.specs.Parameters.{placesOf}
+use Rattle.shortened_theory.specs.Calls.{Fits}
+use Rattle.shortened_theory.proofs.Guards.{word-fits}
+use Rattle.loops_theory.specs.Passing.{Says, Tells}
+use Rattle.loops_theory.proofs.Passing.{bits-zero, bad-place, bad-within}
+use Rattle.loops_theory.proofs.ByFilling.{scan-bad, scan-good}
+use Rattle.loops_theory.proofs.Scans.{bad-small}
+use Rattle.coding.proofs.scan_fit.Statement.{statement}
+use Rattle.coding.proofs.scan_fit.Tie as tie
+
+fits : (b : tie.Start) → let g = b .args in Fits (g .t) (g .r) (g .d) (placesOf (g .t)) (length (g .word .now))
+fits b = word-fits _ _ _ _ (b .pre)
+
+-- what the test of the head says, and what the pass tells, where the test says x
+said : (c : tie.After-bits) (x : Bool) → c .bits .result ≡ x → Says x (c .before .before .before .args .word .now) 0 (c .before .head .result)
+said c x e =
+    let w = c .before .before .before .args .word .now in
+    let n = c .before .head .result in
+    let z : 0 + n ≡ n = omega arith in
+    subst (λ (k : ℕ). Says x w 0 k) z (subst (λ (x : Bool). Says x w 0 (0 + n)) e (c .bits .ensures))
+
+told : (c : tie.After-pass) (x : Bool) → c .pass .result .good ≡ x → let w = c .before .before .before .before .before .args .word .now in Tells x w 0 (length w)
+told c x e = let w = c .before .before .before .before .before .args .word .now in subst (λ (x : Bool). Tells x w 0 (length w)) e (c .pass .ensures .0)
+
+head-requires : tie.Need-head-requires
+head-requires c κs = search needs
+
+bits-requires : tie.Need-bits-requires
+bits-requires c κs = search needs
+
+pass-requires : tie.Need-pass-requires
+pass-requires c κs = fits (c .before .before .before .before)
+
+returns : tie.Need-returns
+returns c =
+    let q = c .before .before in
+    let y = c .before .if2 .taken in
+    let b = q .before .before .before .before .before in
+    let w = b .args .word .now in
+    scan-good _ _ _ w (b .pre) _ (bits-zero w (told q _ y)) (q .pass .ensures .1 y)
+
+first-bad-requires : tie.Need-first-bad-requires
+first-bad-requires c κs = let t = c .before .before in (t .before .before .head .ensures, said (t .before) _ (t .if1 .taken))
+
+cast-t13 : tie.Need-cast-t13
+cast-t13 c =
+    let b = c .before .before .before .before .before .before .before in
+    let h = bad-small _ _ _ _ (b .args .word .now) (fits b) (omega arith) _ (c .first-bad .ensures) in
+    search needs
+
+zero-requires : tie.Need-zero-requires
+zero-requires c κs = search needs
+
+returns-2 : tie.Need-returns-2
+returns-2 c =
+    let n = c .before .before in
+    let q = n .before in
+    let b = q .before .before .before .before .before in
+    let w = b .args .word .now in
+    rw (c .zero .ensures) (scan-bad _ _ _ w (b .pre) _ (c .before .first-bad .ensures) (bad-place w (told q _ (n .if2 .left))))
+
+first-bad-requires-2 : tie.Need-first-bad-requires-2
+first-bad-requires-2 c κs = (omega arith, λ i h l. absurd (omega arith))
+
+cast-t15 : tie.Need-cast-t15
+cast-t15 c =
+    let b = c .before .before .before .before .before in
+    let h = bad-small _ _ _ _ (b .args .word .now) (fits b) (omega arith) _ (c .first-bad2 .ensures) in
+    search needs
+
+zero-requires-2 : tie.Need-zero-requires-2
+zero-requires-2 c κs = search needs
+
+returns-3 : tie.Need-returns-3
+returns-3 c =
+    let n = c .before .before in
+    let q = n .before in
+    let b = q .before .before .before in
+    let w = b .args .word .now in
+    rw (c .zero2 .ensures) (scan-bad _ _ _ w (b .pre) _ (c .before .first-bad2 .ensures) (bad-place w (bad-within w (said q _ (n .if1 .left)))))
+
+pub scan-fit-spec : {M : Type 1} → statement M
+scan-fit-spec =
+    tie.close
+    (tie.spec
+    head-requires
+    bits-requires
+    pass-requires
+    returns
+    first-bad-requires
+    cast-t13
+    zero-requires
+    returns-2
+    first-bad-requires-2
+    cast-t15
+    zero-requires-2
+    returns-3)

@@ -1,0 +1,128 @@
+-- `two_passes::weights::singles` meets its contract. Assumes nothing.
+use borrow.Author.Needs.{needs}
+use mathlib.Core.Path.{refl}
+use Prim.Native.Nat.{_+_, _-_}
+use Rattle.loops_theory.proofs.Laying.{Singling, SegmentAsks, RestAsks, SinglesRoom, room-for, singling-start, singling-asks, singling-step, singling-end, singling-done}
+use Rattle.two_passes.proofs.weights.singles.Statement.{statement}
+use Rattle.two_passes.proofs.weights.singles.Tie as tie
+
+abbrev Inv-loop : tie.InvT-loop
+Inv-loop a b count part word v₀ e start n₀ at₀ i₀ v n at i = Singling a b start word v₀ v n at i
+
+abbrev μ-loop : tie.MeasureT-loop
+μ-loop a b count part word v₀ e start n₀ at₀ i₀ v n at i = a - i
+
+-- how many weights there are of each kind
+room-at : (b : tie.Start Inv-loop μ-loop) → SinglesRoom (b .args .a) (b .args .b) (b .args .count) (b .args .part) (b .args .word .now) (b .pre .0) (b .args .part + b .args .a + 1) (b .args .count - (b .args .part + b .args .a + 1))
+room-at b = room-for (b .args .a) (b .args .b) (b .args .count) (b .args .part) (b .args .word .now) (b .pre .0) _ _ refl refl
+
+add-e : tie.Need-add-e Inv-loop μ-loop
+add-e c = let b = c .before .before in let R = room-at b in search needs
+
+add-e-2 : tie.Need-add-e-2 Inv-loop μ-loop
+add-e-2 c = let b = c .before .before in let R = room-at b in search needs
+
+sub-start : tie.Need-sub-start Inv-loop μ-loop
+sub-start c = let b = c .before .before in let R = room-at b in search needs
+
+clear-requires : tie.Need-clear-requires Inv-loop μ-loop
+clear-requires c κs = let b = c .before .before .before in let R = room-at b in search needs
+
+loop-holds : tie.Need-loop-holds Inv-loop μ-loop
+loop-holds c =
+    let b = c .before .before .before .before .before .before in
+    let R = room-at b in
+    let h = b .pre in
+    singling-start _ _ _ _ (b .args .word .now) (b .pre .0) _ (b .args .v .now) _ (b .pre .1) (R .space) (c .before .before .clear .ensures)
+
+abbrev start-of : tie.At-loop Inv-loop μ-loop → tie.Start Inv-loop μ-loop
+start-of l = l .before .before .before .before .before .before .before
+
+-- what the next segment asks, and what the bytes after the last one ask
+segment : (l : tie.In-loop Inv-loop μ-loop)
+    → let b = start-of (l .before) in let s = l .before .loop in
+    SegmentAsks (b .args .word .now) (s .v) (b .args .count - (b .args .part + b .args .a + 1)) (s .n) (s .at)
+segment l =
+    let b = start-of (l .before) in
+    singling-asks _ _ _ _ (b .args .word .now) (b .pre .0) _ _ (room-at b) _ _ _ _ _ (l .before .loop .inv) (l .loop-test .taken)
+
+rest : (l : tie.After-loop Inv-loop μ-loop)
+    → let b = start-of (l .before) in let s = l .before .loop in let e = b .args .part + b .args .a + 1 in
+    RestAsks (b .args .word .now) (s .v) (b .args .count - e) e (s .n) (s .at)
+rest l =
+    let b = start-of (l .before) in
+    singling-end _ _ _ _ (b .args .word .now) (b .pre .0) _ _ (room-at b) _ _ _ _ _ (l .before .loop .inv) (l .loop-test .left)
+
+add-single-segment : tie.Need-add-single-segment Inv-loop μ-loop
+add-single-segment c = let l = c .before in let R = room-at (start-of (l .before)) in let S = segment l in let i = l .before .loop .inv in search needs
+
+sub-single-segment : tie.Need-sub-single-segment Inv-loop μ-loop
+sub-single-segment c = let l = c .before in let R = room-at (start-of (l .before)) in let S = segment l in let i = l .before .loop .inv in search needs
+
+single-segment-requires : tie.Need-single-segment-requires Inv-loop μ-loop
+single-segment-requires c κs = let l = c .before in let R = room-at (start-of (l .before)) in let S = segment l in let i = l .before .loop .inv in search needs
+
+sub-at : tie.Need-sub-at Inv-loop μ-loop
+sub-at c = let l = c .before .before .before .before in let R = room-at (start-of (l .before)) in let S = segment l in let i = l .before .loop .inv in search needs
+
+add-at : tie.Need-add-at Inv-loop μ-loop
+add-at c = let l = c .before .before .before .before in let R = room-at (start-of (l .before)) in let S = segment l in let i = l .before .loop .inv in search needs
+
+mul-n : tie.Need-mul-n Inv-loop μ-loop
+mul-n c = let l = c .before .before .before .before in let R = room-at (start-of (l .before)) in let S = segment l in let i = l .before .loop .inv in search needs
+
+add-i : tie.Need-add-i Inv-loop μ-loop
+add-i c = search needs
+
+loop-less : tie.Need-loop-less Inv-loop μ-loop
+loop-less c = search needs
+
+loop-again : tie.Need-loop-again Inv-loop μ-loop
+loop-again c =
+    let l = c .before .before .before .before in
+    let b = start-of (l .before) in
+    singling-step _ _ _ _ (b .args .word .now) (b .pre .0) _ _ (room-at b) _ _ _ _ _ (l .before .loop .inv) (l .loop-test .taken) _ (search needs) (c .before .before .single-segment .ensures)
+
+add-bytes : tie.Need-add-bytes Inv-loop μ-loop
+add-bytes c = let l = c .before in let R = room-at (start-of (l .before)) in let S = rest l in let i = l .before .loop .inv in search needs
+
+sub-bytes : tie.Need-sub-bytes Inv-loop μ-loop
+sub-bytes c = let l = c .before in let R = room-at (start-of (l .before)) in let S = rest l in let i = l .before .loop .inv in search needs
+
+bytes-requires : tie.Need-bytes-requires Inv-loop μ-loop
+bytes-requires c κs = let l = c .before in let R = room-at (start-of (l .before)) in let S = rest l in let i = l .before .loop .inv in search needs
+
+same-length : tie.Need-same-length Inv-loop μ-loop
+same-length c = search needs
+
+returns : tie.Need-returns Inv-loop μ-loop
+returns c =
+    let l = c .before .before .before .before in
+    let b = start-of (l .before) in
+    singling-done _ _ _ _ (b .args .word .now) (b .pre .0) _ _ (room-at b) _ _ _ _ _ _ (l .before .before .before .before .clear .ensures) (l .before .loop .inv) (l .loop-test .left) _ (c .before .before .bytes .ensures)
+
+pub singles-spec : {M : Type 1} → statement M
+singles-spec =
+    tie.close
+    (tie.spec
+    Inv-loop
+    μ-loop
+    add-e
+    add-e-2
+    sub-start
+    clear-requires
+    loop-holds
+    add-single-segment
+    sub-single-segment
+    single-segment-requires
+    sub-at
+    add-at
+    mul-n
+    add-i
+    loop-less
+    loop-again
+    add-bytes
+    sub-bytes
+    bytes-requires
+    same-length
+    returns)

@@ -1,0 +1,33 @@
+//! The benchmark of correction runs through: both calls and the second program agree on every
+//! input, and each code and kind has its row. What it measures so quickly is not looked at.
+
+use std::process::Command;
+
+#[test]
+fn runs_and_has_every_row() {
+    let mut command = Command::new(env!("CARGO_BIN_EXE_passes"));
+    let run = command.arg("--quick").output().expect("passes runs");
+    let errors = String::from_utf8_lossy(&run.stderr);
+    assert!(run.status.success(), "{}: {errors}", run.status);
+    let report = String::from_utf8_lossy(&run.stdout);
+    let first = report.lines().next().expect("a line");
+    assert!(first.ends_with(" 0 differences"), "{first}");
+
+    // 13 codes with six kinds of words, 6 of them at t = 10 and 7 at t = 12.
+    let rows = |start: &str| {
+        report
+            .lines()
+            .filter(|line| line.starts_with(start))
+            .count()
+    };
+    assert_eq!(rows("10 "), 6 * 6);
+    assert_eq!(rows("12 "), 7 * 6);
+}
+
+#[test]
+fn an_unknown_argument_is_refused() {
+    let mut command = Command::new(env!("CARGO_BIN_EXE_passes"));
+    let run = command.arg("--fast").output().expect("passes runs");
+    assert_eq!(run.status.code(), Some(2));
+    assert!(String::from_utf8_lossy(&run.stderr).starts_with("usage: passes "));
+}
