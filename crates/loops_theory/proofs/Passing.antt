@@ -227,7 +227,7 @@ laid-both start k v u r x y l h i e f =
     ∙ drop-at (take start v) y start (length-take-le start v h) in
     ap (λ (i : ℕ). take (i + k) (r ++ drop start u)) (sym l) ∙ take-append-add r (drop start u) k ∙ ap₂ _++_ (sym t ∙ f) z
 
--- the part that was lent has the length that it had
+-- the first `start` weights, taken by themselves, are still as many
 pub part-length : (start : ℕ) (v u r : List ℕ) → length (r ++ drop start u) ≡ length v → length u ≡ length v → start ≤ length u → length r ≡ start
 part-length start v u r e f h = let a = length-append r (drop start u) in let b = length-drop start u in omega arith
 

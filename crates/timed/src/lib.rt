@@ -3,7 +3,7 @@
 // can compare all that they tell and write. In C a slice is a pointer and a length, and the structs are
 // those of crate coder_theory, by value. The caller keeps the output apart from the word.
 ghost use mathlib.Core.Path.{_≡_};
-ghost use Rattle.coder_theory.specs.Calls.{correctAnswer, correctOutput, encodeAnswer, encodeOutput};
+ghost use Rattle.coder_theory.specs.Calls.{correctAnswer, correctOutput};
 use coder_theory::Corrected;
 use coder_theory::Record;
 
@@ -23,15 +23,4 @@ pub extern "C" fn timed_two_passes(record: Record, word: &[u8], out: &mut [u8]) 
     ensures bytes { λ x. ⌜ now (out .exit) ≡ correctOutput «record» (now (word .entry)) (now (out .entry)) ⌝ }
 {
     two_passes::correct(record, word, out)
-}
-
-// Encoding, which is not timed: its sums are those of correction, and are compiled, as in the library for C, as
-// one function that both call.
-#[no_mangle]
-pub extern "C" fn timed_encode(record: Record, message: &[u8], out: &mut [u8]) -> u32
-    ensures answer { λ x. ⌜ x ≡ encodeAnswer «record» (now (message .entry)) (now (out .entry)) .refusal ⌝ }
-    ensures bytes { λ x. ⌜ now (out .exit) ≡ encodeOutput «record» (now (message .entry)) (now (out .entry)) ⌝ }
-{
-    let a = coder::encode(record, message, out);
-    a.refusal
 }

@@ -15,7 +15,7 @@ const CALLS: [&str; 4] = [
     "z2z4_combine",
     "z2z4_third_place",
 ];
-const TIMED: [&str; 3] = ["timed_correct", "timed_two_passes", "timed_encode"];
+const TIMED: [&str; 2] = ["timed_correct", "timed_two_passes"];
 const FLAGS: [&str; 2] = ["-std=c99", "-O3"];
 /// Where the code of the program by tables stands, see `copies::place`. Its times move too: of the
 /// offsets that a linker can choose this was the quickest when they were tried, for every call but
