@@ -28,15 +28,30 @@ pub(crate) fn first_bad(word: &[u8], begin: usize) -> usize
     bad_from(word, start)
 }
 
-// As many bytes of a word as are tested before the pass: none of a short one. The array that the pass lays out costs
+// As many bytes of a word as are tested before the pass: all of a short one. The array that the pass lays out costs
 // more than the whole test of a word whose bad byte is near its front.
 pub(crate) fn head(count: usize) -> usize
     ensures { λ x. ⌜ x ≤ count ⌝ }
 {
-    if count < 128 {
-        return 0;
+    if count < 192 {
+        return count;
     }
-    if count < 1024 { 128 } else { 512 }
+    if count < 1024 { 192 } else { 512 }
+}
+
+// Whether these bytes of a word are 0 or 1. The two lengths are written out, so that the loops over so many bytes
+// are compiled for them.
+pub(crate) fn front(word: &[u8], head: usize) -> bool
+    requires { ⌜ head ≤ length (now word) ⌝ }
+    ensures { λ x. ⌜ Says x (now (word .entry)) 0 head ⌝ }
+{
+    if head == 192 {
+        return bits(word, 0, 192);
+    }
+    if head == 512 {
+        return bits(word, 0, 512);
+    }
+    bits(word, 0, head)
 }
 
 // The lowest place byte by byte, from an index on.

@@ -19,24 +19,23 @@ pub(crate) fn read(a: usize, b: usize, word: &[u8], start: usize) -> Part
     ensures told { λ r. ⌜ Tells (r .good) (now (word .entry)) start (start + (a + 2 * b)) ⌝ }
     ensures sum { λ r. ⌜ r .sum ≡ syndromeOver (moduli a b) (units (moduli a b)) (drop start (now (word .entry))) ⌝ }
 {
+    let n = a + b;
     let mut e = [0u8; 12];
     let mut most: u8 = 0;
     let mut at = start;
     let mut i: usize = 0;
-    while i < 12 {
+    while i < n {
         if i < a {
             let x = word[at];
             e[i] = x % 2;
             most = bits::larger(most, x);
             at += 1;
-        } else if i - a < b {
+        } else {
             let x = word[at];
             let y = word[at + 1];
             e[i] = gray::digit(x, y);
             most = bits::larger(bits::larger(most, x), y);
             at += 2;
-        } else {
-            e[i] = 0;
         }
         i += 1;
     }

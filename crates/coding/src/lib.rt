@@ -19,7 +19,7 @@ ghost use Rattle.layout_theory.specs.Parameters.{placesOf, messageOf, moduliFor
 ghost use Rattle.words_theory.specs.Calls.{badFrom, written, flipFor};
 ghost use Rattle.shortened_theory.specs.Code.{shortenedSyndrome, shortenedEncode};
 ghost use Rattle.shortened_theory.specs.Calls.{Fits, fitsWord, scannedFor, encodeBadFor, shortenedEncodeFor};
-ghost use Rattle.loops_theory.specs.Passing.{Tells};
+ghost use Rattle.loops_theory.specs.Passing.{BitsIn, Tells};
 use part::Part;
 pub use shortened_theory::Scanned;
 
@@ -42,8 +42,8 @@ fn scan_fit(t: u32, r: u32, d: usize, word: &[u8]) -> Scanned
     ensures { λ x. ⌜ x ≡ scannedFor t r d (now (word .entry)) ⌝ }
 {
     let head = bits::head(word.len());
-    if bits::bits(word, 0, head) {
-        let p = pass(t, r, d, word);
+    if bits::front(word, head) {
+        let p = pass(t, r, d, word, head);
         let good = p.good;
         if good {
             let sum = p.sum;
@@ -63,9 +63,9 @@ fn scan_fit(t: u32, r: u32, d: usize, word: &[u8]) -> Scanned
     }
 }
 
-// The message's part and the check's.
-fn pass(t: u32, r: u32, d: usize, word: &[u8]) -> Part
-    requires { ⌜ Fits t r d (placesOf t) (length (now word)) ⌝ }
+// The check's part, which needs no array, and the message's. The first `head` bytes were tested before.
+fn pass(t: u32, r: u32, d: usize, word: &[u8], head: usize) -> Part
+    requires { ⌜ Fits t r d (placesOf t) (length (now word)) × (head ≤ length (now word)) × BitsIn (now word) 0 head ⌝ }
     ensures told { λ x. ⌜ Tells (x .good) (now (word .entry)) 0 (length (now (word .entry))) ⌝ }
     ensures sum { λ x. ⌜ (x .good ≡ true → x .sum ≡ shortenedSyndrome (moduliFor t r) d (now (word .entry))) ⌝ }
 {
@@ -75,18 +75,18 @@ fn pass(t: u32, r: u32, d: usize, word: &[u8]) -> Part
     let places = h.places as usize;
     let binary = h.binary as usize;
     let message = h.message as usize;
-    let x = weights::message_sum(a, b, places + 1, binary - a, d, word);
-    let good = x.good;
+    let y = check::read(a, b, word, message - d);
+    let good = y.good;
     if good {
-        let y = check::read(a, b, word, message - d);
+        let x = weights::message_sum(a, b, places + 1, binary - a, d, word, d + head);
         let front = x.sum;
         let back = y.sum;
         return Part {
-            good: y.good,
+            good: x.good,
             sum: group::add(a, b, front, back),
         };
     }
-    x
+    y
 }
 
 // Encodes a message into the front of an output. Answers 0, or the lowest place of a byte above 1, and then
@@ -114,7 +114,7 @@ fn encode_fit(t: u32, r: u32, d: usize, message: &[u8], out: &mut [u8]) -> u32
     let b = h.b;
     let places = h.places as usize;
     let binary = h.binary as usize;
-    let x = weights::message_sum(a, b, places + 1, binary - a, d, message);
+    let x = weights::message_sum(a, b, places + 1, binary - a, d, message, 0);
     let good = x.good;
     if good {
         let sum = x.sum;

@@ -19,7 +19,7 @@ ghost use Rattle.words_theory.specs.Words.{zeroWord};
 ghost use Rattle.words_theory.specs.Syndrome.{syndromeOver};
 ghost use Rattle.shortened_theory.specs.Code.{fill};
 ghost use Rattle.loops_theory.specs.Spread.{spread, row, messageIn, HoldsPairs, HoldsFilled};
-ghost use Rattle.loops_theory.specs.Passing.{Highest, Says, Tells};
+ghost use Rattle.loops_theory.specs.Passing.{BitsIn, Highest, Says, Tells};
 use crate::bits;
 use crate::part::Part;
 
@@ -31,110 +31,111 @@ pub(crate) fn message_sum(
     part: usize,
     d: usize,
     word: &[u8],
+    seen: usize,
 ) -> Part
-    requires { ⌜ HoldsFilled a b count part d (now word) ⌝ }
+    requires { ⌜ HoldsFilled a b count part d (now word) × BitsIn (fill d (now word)) 0 seen ⌝ }
     ensures told { λ x. ⌜ Tells (x .good) (fill d (now (word .entry))) 0 (messageIn a b) ⌝ }
     ensures sum { λ x. ⌜ (x .good ≡ true → x .sum ≡ syndromeOver (moduli a b) (message (moduli a b)) (fill d (now (word .entry)))) ⌝ }
 {
     if d == 0 {
-        return whole(a, b, count, part, word);
+        return whole(a, b, count, part, word, seen);
     }
     let t = a + 2 * b;
     if t <= 6 {
-        return cut6(a, b, count, part, d, word);
+        return cut6(a, b, count, part, d, word, seen);
     }
     if t <= 10 {
-        return cut10(a, b, count, part, d, word);
+        return cut10(a, b, count, part, d, word, seen);
     }
-    cut12(a, b, count, part, d, word)
+    cut12(a, b, count, part, d, word, seen)
 }
 
 // The same of a word without left-out places.
-fn whole(a: usize, b: usize, count: usize, part: usize, word: &[u8]) -> Part
-    requires { ⌜ HoldsFilled a b count part 0 (now word) ⌝ }
+fn whole(a: usize, b: usize, count: usize, part: usize, word: &[u8], seen: usize) -> Part
+    requires { ⌜ HoldsFilled a b count part 0 (now word) × BitsIn (fill 0 (now word)) 0 seen ⌝ }
     ensures told { λ x. ⌜ Tells (x .good) (fill 0 (now (word .entry))) 0 (messageIn a b) ⌝ }
     ensures sum { λ x. ⌜ (x .good ≡ true → x .sum ≡ syndromeOver (moduli a b) (message (moduli a b)) (fill 0 (now (word .entry)))) ⌝ }
 {
     let t = a + 2 * b;
     if t <= 6 {
-        return sum6(a, b, count, part, word);
+        return sum6(a, b, count, part, word, seen);
     }
     if t <= 10 {
-        return sum10(a, b, count, part, word);
+        return sum10(a, b, count, part, word, seen);
     }
-    sum12(a, b, count, part, word)
+    sum12(a, b, count, part, word, seen)
 }
 
 // The sum by an array of weights that has room for codes up to t = 6, 10 and 12: the singles, which stand first
 // in a word, are laid out behind the pairs. The three for a word without left-out places are functions of their
 // own, so that nothing of the cutting is left in them when they are compiled.
-fn sum6(a: usize, b: usize, count: usize, part: usize, word: &[u8]) -> Part
-    requires { ⌜ HoldsFilled a b count part 0 (now word) × (a + 2 * b ≤ 6) ⌝ }
+fn sum6(a: usize, b: usize, count: usize, part: usize, word: &[u8], seen: usize) -> Part
+    requires { ⌜ HoldsFilled a b count part 0 (now word) × (a + 2 * b ≤ 6) × BitsIn (fill 0 (now word)) 0 seen ⌝ }
     ensures told { λ x. ⌜ Tells (x .good) (fill 0 (now (word .entry))) 0 (messageIn a b) ⌝ }
     ensures sum { λ x. ⌜ (x .good ≡ true → x .sum ≡ syndromeOver (moduli a b) (message (moduli a b)) (fill 0 (now (word .entry)))) ⌝ }
 {
     let mut v = [0u8; folds::ROOM6];
-    let one = singles(a, b, count, part, 0, word, &mut v);
+    let one = singles(a, b, count, part, 0, word, seen, &mut v);
     let good = pairs(one, a, b, count, part, 0, word, &mut v);
     let sum = folds::weighted6(components(good, a), b, v);
     Part { good, sum }
 }
 
-fn sum10(a: usize, b: usize, count: usize, part: usize, word: &[u8]) -> Part
-    requires { ⌜ HoldsFilled a b count part 0 (now word) × (a + 2 * b ≤ 10) ⌝ }
+fn sum10(a: usize, b: usize, count: usize, part: usize, word: &[u8], seen: usize) -> Part
+    requires { ⌜ HoldsFilled a b count part 0 (now word) × (a + 2 * b ≤ 10) × BitsIn (fill 0 (now word)) 0 seen ⌝ }
     ensures told { λ x. ⌜ Tells (x .good) (fill 0 (now (word .entry))) 0 (messageIn a b) ⌝ }
     ensures sum { λ x. ⌜ (x .good ≡ true → x .sum ≡ syndromeOver (moduli a b) (message (moduli a b)) (fill 0 (now (word .entry)))) ⌝ }
 {
     let mut v = [0u8; folds::ROOM10];
-    let one = singles(a, b, count, part, 0, word, &mut v);
+    let one = singles(a, b, count, part, 0, word, seen, &mut v);
     let good = pairs(one, a, b, count, part, 0, word, &mut v);
     let sum = folds::weighted10(components(good, a), b, v);
     Part { good, sum }
 }
 
-fn sum12(a: usize, b: usize, count: usize, part: usize, word: &[u8]) -> Part
-    requires { ⌜ HoldsFilled a b count part 0 (now word) ⌝ }
+fn sum12(a: usize, b: usize, count: usize, part: usize, word: &[u8], seen: usize) -> Part
+    requires { ⌜ HoldsFilled a b count part 0 (now word) × BitsIn (fill 0 (now word)) 0 seen ⌝ }
     ensures told { λ x. ⌜ Tells (x .good) (fill 0 (now (word .entry))) 0 (messageIn a b) ⌝ }
     ensures sum { λ x. ⌜ (x .good ≡ true → x .sum ≡ syndromeOver (moduli a b) (message (moduli a b)) (fill 0 (now (word .entry)))) ⌝ }
 {
     let mut v = [0u8; folds::ROOM12];
-    let one = singles(a, b, count, part, 0, word, &mut v);
+    let one = singles(a, b, count, part, 0, word, seen, &mut v);
     let good = pairs(one, a, b, count, part, 0, word, &mut v);
     let sum = folds::weighted12(components(good, a), b, v);
     Part { good, sum }
 }
 
-fn cut6(a: usize, b: usize, count: usize, part: usize, d: usize, word: &[u8]) -> Part
-    requires { ⌜ HoldsFilled a b count part d (now word) × (a + 2 * b ≤ 6) ⌝ }
+fn cut6(a: usize, b: usize, count: usize, part: usize, d: usize, word: &[u8], seen: usize) -> Part
+    requires { ⌜ HoldsFilled a b count part d (now word) × (a + 2 * b ≤ 6) × BitsIn (fill d (now word)) 0 seen ⌝ }
     ensures told { λ x. ⌜ Tells (x .good) (fill d (now (word .entry))) 0 (messageIn a b) ⌝ }
     ensures sum { λ x. ⌜ (x .good ≡ true → x .sum ≡ syndromeOver (moduli a b) (message (moduli a b)) (fill d (now (word .entry)))) ⌝ }
 {
     let mut v = [0u8; folds::ROOM6];
-    let one = singles(a, b, count, part, d, word, &mut v);
+    let one = singles(a, b, count, part, d, word, seen, &mut v);
     let good = pairs(one, a, b, count, part, d, word, &mut v);
     let sum = folds::weighted6(components(good, a), b, v);
     Part { good, sum }
 }
 
-fn cut10(a: usize, b: usize, count: usize, part: usize, d: usize, word: &[u8]) -> Part
-    requires { ⌜ HoldsFilled a b count part d (now word) × (a + 2 * b ≤ 10) ⌝ }
+fn cut10(a: usize, b: usize, count: usize, part: usize, d: usize, word: &[u8], seen: usize) -> Part
+    requires { ⌜ HoldsFilled a b count part d (now word) × (a + 2 * b ≤ 10) × BitsIn (fill d (now word)) 0 seen ⌝ }
     ensures told { λ x. ⌜ Tells (x .good) (fill d (now (word .entry))) 0 (messageIn a b) ⌝ }
     ensures sum { λ x. ⌜ (x .good ≡ true → x .sum ≡ syndromeOver (moduli a b) (message (moduli a b)) (fill d (now (word .entry)))) ⌝ }
 {
     let mut v = [0u8; folds::ROOM10];
-    let one = singles(a, b, count, part, d, word, &mut v);
+    let one = singles(a, b, count, part, d, word, seen, &mut v);
     let good = pairs(one, a, b, count, part, d, word, &mut v);
     let sum = folds::weighted10(components(good, a), b, v);
     Part { good, sum }
 }
 
-fn cut12(a: usize, b: usize, count: usize, part: usize, d: usize, word: &[u8]) -> Part
-    requires { ⌜ HoldsFilled a b count part d (now word) ⌝ }
+fn cut12(a: usize, b: usize, count: usize, part: usize, d: usize, word: &[u8], seen: usize) -> Part
+    requires { ⌜ HoldsFilled a b count part d (now word) × BitsIn (fill d (now word)) 0 seen ⌝ }
     ensures told { λ x. ⌜ Tells (x .good) (fill d (now (word .entry))) 0 (messageIn a b) ⌝ }
     ensures sum { λ x. ⌜ (x .good ≡ true → x .sum ≡ syndromeOver (moduli a b) (message (moduli a b)) (fill d (now (word .entry)))) ⌝ }
 {
     let mut v = [0u8; folds::ROOM12];
-    let one = singles(a, b, count, part, d, word, &mut v);
+    let one = singles(a, b, count, part, d, word, seen, &mut v);
     let good = pairs(one, a, b, count, part, d, word, &mut v);
     let sum = folds::weighted12(components(good, a), b, v);
     Part { good, sum }
@@ -230,6 +231,13 @@ fn minus(x: usize, y: usize) -> usize
     if x < y { 0 } else { x - y }
 }
 
+// The smaller of two numbers.
+fn least(x: usize, y: usize) -> usize
+    ensures { λ r. ⌜ (r ≤ x) × (r ≤ y) ⌝ }
+{
+    if x < y { x } else { y }
+}
+
 // The weight 0 at an index.
 fn clear(v: &mut [u8], k: usize)
     requires { ⌜ k < length (now v) ⌝ }
@@ -315,9 +323,10 @@ fn singles(
     part: usize,
     d: usize,
     word: &[u8],
+    seen: usize,
     v: &mut [u8],
 ) -> bool
-    requires { ⌜ HoldsFilled a b count part d (now word) × Holds a b (length (now v)) ⌝ }
+    requires { ⌜ HoldsFilled a b count part d (now word) × Holds a b (length (now v)) × BitsIn (fill d (now word)) 0 seen ⌝ }
     ensures told { λ x. ⌜ Tells x (fill d (now (word .entry))) 0 part ⌝ }
     ensures laid { λ x. ⌜ take count (now (v .exit)) ≡ take (2 * plusTo a b b) (now (v .entry)) ++ spread false (moduli a b) (even (level a b b)) (fill d (now (word .entry))) ⌝ }
 {
@@ -334,7 +343,8 @@ fn singles(
         i += 1;
     }
     bytes(d, word, at, v, start + n, e - n);
-    bits::bits(v, start, e)
+    let k = least(seen, e);
+    bits::bits(v, start + k, e - k)
 }
 
 // The weight 0 of a unit, at index k, and the n bytes after it.

@@ -7,7 +7,7 @@ use Prim.Native.Nat.{ℕ, zero, suc, _-_, _%_, _<_}
 use native.Mathlib.Omega.{arith}
 use lib.Dec.{T, eqb, eqb→eq, eqb-refl}
 use lib.ListN.{getD}
-use Rattle.group_theory.specs.Group.{Modulus, one, two, four, hd, tl, Valid, zeros, negative}
+use Rattle.group_theory.specs.Group.{Modulus, one, two, four, radix, hd, tl, Valid, zeros, negative}
 use Rattle.group_theory.specs.Claims.{FirstOdd}
 use Rattle.group_theory.specs.Sign.{same, allZero, isUnit, oddOr, lead}
 use Rattle.group_theory.proofs.Laws.{valid-negative, negative-negative, negative-zeros}
@@ -174,6 +174,27 @@ pub zeros-allZero : (ms : List Modulus) → allZero (zeros ms) ≡ true
 unfolding allZero zeros
 zeros-allZero [] = refl
 zeros-allZero (m ∷ ms) = zeros-allZero ms
+
+-- minus what has no component other than 0, however many there are
+hd-zero : (e : List ℕ) → allZero e ≡ true → hd e ≡ 0
+unfolding allZero
+hd-zero [] t = refl
+hd-zero (x ∷ e) t = eqb→eq x 0 (true-T (eqb x 0) (both (eqb x 0) (allZero e) t .0))
+
+tl-zero : (e : List ℕ) → allZero e ≡ true → allZero (tl e) ≡ true
+unfolding allZero
+tl-zero [] t = refl
+tl-zero (x ∷ e) t = both (eqb x 0) (allZero e) t .1
+
+pub negative-none : (ms : List Modulus) (e : List ℕ) → allZero e ≡ true → negative ms e ≡ zeros ms
+unfolding zeros negative
+negative-none [] e t = refl
+negative-none (m ∷ ms) e t = ap₂ {C = List ℕ} _∷_ (none m (hd e) (hd-zero e t)) (negative-none ms (tl e) (tl-zero e t))
+  where
+    none : (m : Modulus) (x : ℕ) → x ≡ 0 → (radix m - x % radix m) % radix m ≡ 0
+    none one x h = rw h refl
+    none two x h = rw h refl
+    none four x h = rw h refl
 
 pub allZero-same : (ms : List Modulus) (e : List ℕ) → Valid ms e → same e (zeros ms) ≡ allZero e
 allZero-same ms e h =

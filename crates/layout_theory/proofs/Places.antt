@@ -169,6 +169,27 @@ place-none ms e h = go (same e (zeros ms)) refl
         place-never 1 e (places ms (slots ms))
         (not-among ms e (places ms (slots ms)) (valid-places ms) (λ v. true≢false (sym (same-refl (zeros ms)) ∙ ap (λ (r : List ℕ). same r (zeros ms)) (sym (h v)) ∙ t)))
 
+-- a place that is found has the element
+place-from-at : (p : ℕ) (e d : List ℕ) (xs : List (List ℕ)) → placeFrom p e xs ≢ 0 → (i : ℕ) × (placeFrom p e xs ≡ p + i) × (getD xs i d ≡ e)
+unfolding placeFrom
+place-from-at p e d [] n = absurd (n refl)
+place-from-at p e d (x ∷ xs) n = go (place-from-at (suc p) e d xs) (same e x) refl
+  where
+    go : (placeFrom (suc p) e xs ≢ 0 → (i : ℕ) × (placeFrom (suc p) e xs ≡ suc p + i) × (getD xs i d ≡ e)) → (b : Bool) → same e x ≡ b
+        → (i : ℕ) × (placeFrom p e (x ∷ xs) ≡ p + i) × (getD (x ∷ xs) i d ≡ e)
+    go f true t = (0, place-here p e x xs t ∙ omega arith, sym (same-eq e x t))
+    go f false t =
+        let l = place-later p e x xs t in
+        let r = f (λ z. n (l ∙ z)) in
+        (suc (r .0), l ∙ r .1 ∙ omega arith, r .2)
+
+pub place-found : (ms : List Modulus) (e : List ℕ) → placeOf ms e ≢ 0 → elementAt ms (placeOf ms e) ≡ e
+unfolding placeOf elementAt
+place-found ms e n =
+    let r = place-from-at 1 e (zeros ms) (places ms (slots ms)) n in
+    let k : placeOf ms e ≡ suc (r .0) = r .1 ∙ omega arith in
+    ap (elementAt ms) k ∙ r .2
+
 -- whatever is looked for, the place found is not beyond the last
 place-from-lt : (p : ℕ) (e : List ℕ) (xs : List (List ℕ)) → 0 < p → placeFrom p e xs < p + length xs
 unfolding placeFrom

@@ -9,7 +9,9 @@ use borrow.Author.Tests.{ne-eqb, leb-true}
 use lib.Dec.{eqb, leb}
 use lib.ListN.{length, drop}
 use Rattle.group_theory.specs.Group.{Modulus, moduli, zeros}
+use Rattle.group_theory.specs.Sign.{allZero}
 use Rattle.group_theory.proofs.Signs.{both}
+use Rattle.layout_theory.specs.Choice.{pick}
 use Rattle.layout_theory.specs.Parameters.{placesOf, messageOf, binaryOf, quaternaryOf, moduliFor}
 use Rattle.layout_theory.specs.Calls.{shapeFor}
 use Rattle.layout_theory.specs.declared.Shape.{Shape}
@@ -21,6 +23,7 @@ use Rattle.shortened_theory.specs.Calls.{allowedFor, fitsWord, fitsMessage, sca
 use Rattle.shortened_theory.specs.Calls.{shortenedSyndromeFor, shortenedEncodeFor, shortenedCombineFor, shortenedInvertFor}
 use Rattle.shortened_theory.proofs.Guards.{allowed-both, word-fits}
 use Rattle.loops_theory.specs.Writing.{Cut}
+use Rattle.loops_theory.proofs.Faults.{fault-zero}
 
 -- ---- tests
 pub word-allowed : (t r s k : ℕ) → fitsWord t r s k ≡ true → allowedFor t r s ≡ true
@@ -47,6 +50,14 @@ fault-at t r s e w y = rw y
 pub fault-at-none : (t r s : ℕ) (e w : List ℕ) → fitsWord t r s (length w) ≡ false → 0 ≡ faultAtFor t r s e w
 unfolding faultAtFor
 fault-at-none t r s e w y = rw y
+
+pub fault-at-zero : (t r s : ℕ) (e w : List ℕ) → allZero e ≡ true → 0 ≡ faultAtFor t r s e w
+unfolding faultAtFor
+fault-at-zero t r s e w h = go (fitsWord t r s (length w))
+  where
+    go : (b : Bool) → 0 ≡ pick b (calls.faultAt (moduliFor t r) e (fill s w)) 0
+    go true = fault-zero (moduliFor t r) e (fill s w) h
+    go false = refl
 
 -- ---- the pass over a word
 module _ (t r s : ℕ) (w : List ℕ) where

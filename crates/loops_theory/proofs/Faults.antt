@@ -1,5 +1,5 @@
 -- The place at fault as the code tells it, and a word with one place flipped. Assumes nothing.
-use mathlib.Core.Path.{_≡_, refl, sym, ap, ap₂, _∙_}
+use mathlib.Core.Path.{_≡_, refl, sym, ap, ap₂, subst, _∙_}
 use mathlib.Core.Logic.{_≢_}
 use mathlib.Core.Bool.{Bool, true, false}
 use mathlib.Core.List.{List, _++_}
@@ -10,18 +10,22 @@ use borrow.Author.Tests.{le-leb, lt-leb}
 use lib.Dec.{eqb}
 use lib.ListN.{length, drop, getD, set}
 use lib.Seq.{drop-append-seam, set-append-left, set-out}
-use Rattle.group_theory.specs.Group.{Modulus, moduli, negative}
+use Rattle.group_theory.specs.Group.{Modulus, Valid, moduli, zeros, negative}
+use Rattle.group_theory.specs.Sign.{allZero}
+use Rattle.group_theory.proofs.Laws.{valid-negative, negative-negative, negative-zeros}
+use Rattle.group_theory.proofs.Signs.{negative-none}
 use Rattle.layout_theory.specs.Choice.{pick}
 use Rattle.layout_theory.specs.Parameters.{moduliFor}
-use Rattle.layout_theory.specs.Layout.{Slot, slots, placeOf}
+use Rattle.layout_theory.specs.Layout.{Slot, slots, elementAt, placeOf}
 use Rattle.layout_theory.specs.Calls.{placeFor}
 use Rattle.layout_theory.specs.declared.Shape.{Shape}
 use Rattle.layout_theory.proofs.Parameters.{Known, moduli-known, length-for, place-for}
-use Rattle.layout_theory.proofs.Places.{place-most}
+use Rattle.layout_theory.proofs.Places.{valid-at-place, place-unique, place-none, place-found, place-most}
 use Rattle.words_theory.specs.Words.{flip}
-use Rattle.words_theory.specs.Halves.{otherAt, movedAt, moved}
+use Rattle.words_theory.specs.Halves.{otherAt, otherHalf, movedAt, moved}
 use Rattle.words_theory.specs.Calls.{faultAt, flipFor}
 use Rattle.words_theory.proofs.Flips.{flip-set}
+use Rattle.words_theory.proofs.Theorem.{pair-halves}
 use Rattle.shortened_theory.specs.Code.{fill}
 use Rattle.loops_theory.specs.Writing.{Cut}
 use Rattle.loops_theory.proofs.Cuts.{getD-left, getD-kept, other-gone}
@@ -49,12 +53,43 @@ pub place-within : (t r : ℕ) (s : Shape) → Known t r s → (m : List ℕ) (p
 place-within t r s k m p f =
     omega (arith, f ∙ place-for t r m (k .admitted), place-most (moduliFor t r) m, length-for t r (k .admitted), k .places)
 
--- x is an element, m is minus it, and p its place
-module _ (t r : ℕ) (s : Shape) (k : Known t r s) (w x m : List ℕ) (p : ℕ)
-    (e : m ≡ negative (moduli (s .a) (s .b)) x)
-    (f : p ≡ placeFor t r m) where
+-- the place of minus e is the other half of the place of e, where e has one; and minus zero has none
+pub other-place : (ms : List Modulus) (e : List ℕ) → placeOf ms e ≢ 0 → placeOf ms (negative ms e) ≡ otherHalf (slots ms) (placeOf ms e)
+other-place ms e n =
+    let p = placeOf ms e in
+    let x : elementAt ms p ≡ e = place-found ms e n in
+    let v : Valid ms e = subst (Valid ms) x (valid-at-place ms p) in
+    let z : negative ms e ≢ zeros ms = λ q. n (place-none ms e (λ _. sym (negative-negative ms e v) ∙ ap (negative ms) q ∙ negative-zeros ms)) in
+    place-unique ms (negative ms e) (otherHalf (slots ms) p) (valid-negative ms e) z (some p n) (pair-halves ms .negates p ∙ ap (negative ms) x)
+  where
+    some : (p : ℕ) → p ≢ 0 → 0 < otherHalf (slots ms) p
+    some zero n = absurd (n refl)
+    some (suc i) n = omega arith
+
+module _ (t r : ℕ) (s : Shape) (k : Known t r s) (e : List ℕ) (p : ℕ) (f : p ≡ placeFor t r e) where
+  pub other-told : p ≢ 0 → (i : ℕ) → i ≡ otherAt (slots (moduli (s .a) (s .b))) (p - 1) → i + 1 ≡ placeFor t r (negative (moduli (s .a) (s .b)) e)
+  other-told n i g =
+      let ms = moduliFor t r in
+      let q : p ≡ placeOf ms e = f ∙ place-for t r e (k .admitted) in
+      let m = moduli-known t r s k in
+      half p n i (g ∙ ap (λ (ms : List Modulus). otherAt (slots ms) (p - 1)) m)
+      ∙ ap (otherHalf (slots ms)) q
+      ∙ sym (other-place ms e (λ z. n (q ∙ z)))
+      ∙ ap (λ (ms : List Modulus). placeOf (moduliFor t r) (negative ms e)) (sym m)
+      ∙ sym (place-for t r (negative (moduli (s .a) (s .b)) e) (k .admitted))
+    where
+      half : (p : ℕ) → p ≢ 0 → (i : ℕ) → i ≡ otherAt (slots (moduliFor t r)) (p - 1) → i + 1 ≡ otherHalf (slots (moduliFor t r)) p
+      half zero n i g = absurd (n refl)
+      half (suc j) n i g = let x : suc j - 1 ≡ j = omega arith in add-one i ∙ ap suc (g ∙ ap (otherAt (slots (moduliFor t r))) x)
+
+pub fault-zero : (ms : List Modulus) (e w : List ℕ) → allZero e ≡ true → 0 ≡ faultAt ms e w
+fault-zero ms e w h = sym (ap (moved (slots ms) w) (place-none ms (negative ms e) (λ _. negative-none ms e h)))
+
+-- p is the place of minus x
+module _ (t r : ℕ) (s : Shape) (k : Known t r s) (w x : List ℕ) (p : ℕ)
+    (f : p ≡ placeFor t r (negative (moduli (s .a) (s .b)) x)) where
   found : p ≡ placeOf (moduliFor t r) (negative (moduliFor t r) x)
-  found = f ∙ place-for t r m (k .admitted) ∙ ap (placeOf (moduliFor t r)) (e ∙ ap (λ (ms : List Modulus). negative ms x) (moduli-known t r s k))
+  found = f ∙ place-for t r (negative (moduli (s .a) (s .b)) x) (k .admitted) ∙ ap (λ (ms : List Modulus). placeOf (moduliFor t r) (negative ms x)) (moduli-known t r s k)
 
   pub fault-nothing : p ≡ 0 → 0 ≡ faultAt (moduliFor t r) x w
   fault-nothing z = ap (moved (slots (moduliFor t r)) w) (sym z ∙ found)
@@ -66,9 +101,8 @@ module _ (t r : ℕ) (s : Shape) (k : Known t r s) (w x m : List ℕ) (p : ℕ)
       ∙ ap (moved (slots (moduliFor t r)) w) found
 
 -- the same of a word whose first d places are left out: they are 0, and so are both halves of a pair that is
-module _ (t r d : ℕ) (s : Shape) (k : Known t r s) (c : Cut s d) (w x m : List ℕ) (p : ℕ)
-    (e : m ≡ negative (moduli (s .a) (s .b)) x)
-    (f : p ≡ placeFor t r m) (n : p ≢ 0) where
+module _ (t r d : ℕ) (s : Shape) (k : Known t r s) (c : Cut s d) (w x : List ℕ) (p : ℕ)
+    (f : p ≡ placeFor t r (negative (moduli (s .a) (s .b)) x)) (n : p ≢ 0) where
   pub fault-gone : p - 1 < d → p ≡ faultAt (moduliFor t r) x (fill d w)
   fault-gone h =
       let i = otherAt (slots (moduli (s .a) (s .b))) (p - 1) in
@@ -76,12 +110,12 @@ module _ (t r d : ℕ) (s : Shape) (k : Known t r s) (c : Cut s d) (w x m : List
       let b : getD (fill d w) i 0 ≡ 0 = getD-left d w i (other-gone s d c (p - 1) h) in
       let q : p - 1 ≡ pick (eqb (getD (fill d w) (p - 1) 0) (getD (fill d w) i 0)) (p - 1) i = rw (a, b) refl in
       let z : p ≡ p - 1 + 1 = omega arith in
-      z ∙ fault-something t r s k (fill d w) x m p e f n i (p - 1) refl q
+      z ∙ fault-something t r s k (fill d w) x p f n i (p - 1) refl q
 
   pub fault-kept : d ≤ p - 1 → (i j : ℕ) → i ≡ otherAt (slots (moduli (s .a) (s .b))) (p - 1) → d ≤ i
       → j ≡ pick (eqb (getD w (p - 1 - d) 0) (getD w (i - d) 0)) (p - 1) i → j + 1 ≡ faultAt (moduliFor t r) x (fill d w)
   fault-kept h i j g l q =
-      fault-something t r s k (fill d w) x m p e f n i j g
+      fault-something t r s k (fill d w) x p f n i j g
       (q ∙ sym (ap₂ (λ (y z : ℕ). pick (eqb y z) (p - 1) i) (getD-kept d w (p - 1) h) (getD-kept d w i l)))
 
 -- ---- a word with one place flipped, at the front of an output

@@ -125,7 +125,7 @@ bad-within w b = record { index = b .index; from = omega arith; to = within w (b
 
 -- ---- a filled word
 module _ (d : ℕ) (w : List ℕ) where
-  bits-filled : (s e : ℕ) → BitsIn w (s - d) (e - d) → BitsIn (fill d w) s e
+  pub bits-filled : (s e : ℕ) → BitsIn w (s - d) (e - d) → BitsIn (fill d w) s e
   bits-filled s e f i h l = go (decLt i d)
     where
       go : Dec (i < d) → getD (fill d w) i 0 ≤ 1
@@ -153,24 +153,33 @@ module _ (d : ℕ) (w : List ℕ) where
       go (no o) = bad-within w {s = 0} {e = suc (b .index)} (record { index = b .index - d; from = omega arith; to = omega arith; above = rw (← getD-kept d w (b .index) (omega arith)) (b .above) })
 
 -- ---- singles among the weights
-spread-bits : (ms : List Modulus) (xs w : List ℕ) → ((i : ℕ) → getD (spread false ms xs w) i 0 ≤ 1) → BitsIn w 0 (free ms xs)
+-- no byte stands behind its weight, so where the first k bytes are known only the weights from k on are asked for
+spread-bits : (ms : List Modulus) (xs w : List ℕ) (k : ℕ) → BitsIn w 0 k → ((i : ℕ) → k ≤ i → getD (spread false ms xs w) i 0 ≤ 1) → BitsIn w 0 (free ms xs)
 unfolding select
-spread-bits ms [] w f = λ i h l. absurd (omega arith)
-spread-bits ms (x ∷ xs) w f = go (skips ms x) refl (λ z. spread-bits ms xs z)
+spread-bits ms [] w k s f = λ i h l. absurd (omega arith)
+spread-bits ms (x ∷ xs) w k s f = go (skips ms x) refl (λ z k. spread-bits ms xs z k)
   where
     next : (v : List ℕ) → BitsIn (tl v) 0 (free ms xs) → hd v ≤ 1 → BitsIn v 0 (suc (free ms xs))
     next v g h zero a l = rw (← hd-getD v) h
     next v g h (suc i) a l = rw (← getD-tl v i) (g i (omega arith) (omega arith))
 
-    go : (b : Bool) → skips ms x ≡ b → ((z : List ℕ) → ((i : ℕ) → getD (spread false ms xs z) i 0 ≤ 1) → BitsIn z 0 (free ms xs)) → BitsIn w 0 (free ms (x ∷ xs))
+    -- the first byte, which is known or asked for
+    first : (k : ℕ) → BitsIn w 0 k → (k ≤ 0 → hd w ≤ 1) → hd w ≤ 1
+    first zero s g = g (omega arith)
+    first (suc k) s g = rw (hd-getD w) (s 0 (omega arith) (omega arith))
+
+    go : (b : Bool) → skips ms x ≡ b → ((z : List ℕ) (k : ℕ) → BitsIn z 0 k → ((i : ℕ) → k ≤ i → getD (spread false ms xs z) i 0 ≤ 1) → BitsIn z 0 (free ms xs)) → BitsIn w 0 (free ms (x ∷ xs))
     go true e g =
-        let s = spread-yes false ms x xs w e in
+        let u = spread-yes false ms x xs w e in
         let n : free ms (x ∷ xs) ≡ free ms xs = ap length (select-no (others ms) x xs (ap not e)) in
-        rw n (g w (λ i. subst (λ (v : List ℕ). getD v (suc i) 0 ≤ 1) s (f (suc i))))
+        rw n (g w (k - 1) (λ i a l. s i a (omega arith)) (λ i a. subst (λ (v : List ℕ). getD v (suc i) 0 ≤ 1) u (f (suc i) (omega arith))))
     go false e g =
-        let s = spread-no false ms x xs w e in
+        let u = spread-no false ms x xs w e in
         let n : free ms (x ∷ xs) ≡ suc (free ms xs) = ap length (select-yes (others ms) x xs (ap not e)) in
-        rw n (next w (g (tl w) (λ i. subst (λ (v : List ℕ). getD v (suc i) 0 ≤ 1) s (f (suc i)))) (subst (λ (v : List ℕ). getD v 0 0 ≤ 1) s (f 0)))
+        rw n
+        (next w
+        (g (tl w) (k - 1) (λ i a l. rw (getD-tl w i) (s (suc i) (omega arith) (omega arith))) (λ i a. subst (λ (v : List ℕ). getD v (suc i) 0 ≤ 1) u (f (suc i) (omega arith))))
+        (first k s (λ h. subst (λ (v : List ℕ). getD v 0 0 ≤ 1) u (f 0 h))))
 
 spread-bad : (ms : List Modulus) (xs w : List ℕ) (i : ℕ) → 1 < getD (spread false ms xs w) i 0 → (j : ℕ) × (1 < getD w j 0)
 unfolding spread
@@ -209,12 +218,12 @@ module _ (ms : List Modulus) (xs w o v : List ℕ) (start m : ℕ) (e : take (st
       let j = spread-bad ms xs w (b .index - start) u in
       bad-within w {s = 0} {e = suc (j .0)} (record { index = j .0; from = omega arith; to = omega arith; above = j .1 })
 
-  pub singles-bits : BitsIn v start (start + m) → length (spread false ms xs w) ≤ m → BitsIn w 0 (free ms xs)
-  singles-bits f h = spread-bits ms xs w (λ i. go i (decLt i m))
+  pub singles-bits : (k : ℕ) → BitsIn w 0 k → BitsIn v (start + k) (start + m) → length (spread false ms xs w) ≤ m → BitsIn w 0 (free ms xs)
+  singles-bits k s f h = spread-bits ms xs w k s (λ i l. go i l (decLt i m))
     where
-      go : (i : ℕ) → Dec (i < m) → getD (spread false ms xs w) i 0 ≤ 1
-      go i (yes k) = rw (← weight-in i (omega arith)) (f (start + i) (omega arith) (omega arith))
-      go i (no k) = rw (List·getD-eq-default (spread false ms xs w) 0 {n = i} (omega arith)) (omega arith)
+      go : (i : ℕ) → k ≤ i → Dec (i < m) → getD (spread false ms xs w) i 0 ≤ 1
+      go i l (yes j) = rw (← weight-in i (omega arith)) (f (start + i) (omega arith) (omega arith))
+      go i l (no j) = rw (List·getD-eq-default (spread false ms xs w) 0 {n = i} (omega arith)) (omega arith)
 
 -- the weights of the pairs, put before those of the singles
 pub laid-both : (start k : ℕ) (v u r : List ℕ) (x y : List ℕ) → length r ≡ start → start ≤ length v → start ≤ length u → take (start + k) u ≡ take start v ++ y → take start r ≡ x
@@ -249,17 +258,17 @@ module _ (a b count part : ℕ) (w : List ℕ) (L : HoldsMessage a b count part 
       omega arith
 
   pub singles-all : (e start : ℕ) → SinglesRoom a b count part w L e start → (o v : List ℕ) → take count v ≡ take (2 * plusTo a b b) o ++ spread false (moduli a b) (even (level a b b)) w
-      → 2 * plusTo a b b ≤ length o → BitsIn v start (start + e) → BitsIn w 0 part
-  singles-all e start R o v g h f =
+      → 2 * plusTo a b b ≤ length o → (k : ℕ) → BitsIn w 0 k → BitsIn v (start + k) (start + e) → BitsIn w 0 part
+  singles-all e start R o v g h k s f =
       let ms = moduli a b in
       let c : start + e ≡ count = R .whole in
       let p = R .pairs in
       let n : length (spread false ms (even (level a b b)) w) ≡ evenTo a b b = length-spread false ms (even (level a b b)) w in
       let r : free ms (even (level a b b)) ≡ part =
       ap (free ms) (even-all a b) ∙ sym (length-map (select (others ms) (even ms)) (element ms)) ∙ ap length (singles-members ms) ∙ sym (L .front) in
-      let k = R .evens in
+      let ev = R .evens in
       let t : take (start + e) v ≡ take start o ++ spread false ms (even (level a b b)) w = rw (c, p) g in
-      subst (BitsIn w 0) r (singles-bits ms (even (level a b b)) w o v start e t (omega arith) f (omega arith))
+      subst (BitsIn w 0) r (singles-bits ms (even (level a b b)) w o v start e t (omega arith) k s f (omega arith))
 
   pub laid-whole : (e start : ℕ) → SinglesRoom a b count part w L e start → (v u r x y : List ℕ) → take count u ≡ take (2 * plusTo a b b) v ++ y → take (2 * plusTo a b b) r ≡ x
       → Holds a b (length v) → length (r ++ drop start u) ≡ length v → length u ≡ length v → take count (r ++ drop start u) ≡ x ++ y
@@ -284,15 +293,15 @@ module _ (a b count part : ℕ) (w : List ℕ) (L : HoldsMessage a b count part 
       split : (k n : ℕ) (u : List ℕ) → k ≤ n → take n u ≡ take k u ++ drop k (take n u)
       split k n u h = sym (take-append-drop k (take n u)) ∙ ap (λ (z : List ℕ). z ++ drop k (take n u)) (take-take k n u h)
 
-  -- a test of the weights of the singles
+  -- a test of the weights of the singles, from k on where the first k bytes were tested before
   pub singles-told : (e start : ℕ) → SinglesRoom a b count part w L e start → (o v : List ℕ) → take count v ≡ take (2 * plusTo a b b) o ++ spread false (moduli a b) (even (level a b b)) w
-      → 2 * plusTo a b b ≤ length o → (t : Bool) → Says t v start (start + e) → Tells t w 0 part
-  singles-told e start R o v g q true s = singles-all e start R o v g q s
-  singles-told e start R o v g q false s =
+      → 2 * plusTo a b b ≤ length o → (k n : ℕ) → BitsIn w 0 k → n ≡ start + e → (t : Bool) → Says t v (start + k) n → Tells t w 0 part
+  singles-told e start R o v g q k n f z true s = singles-all e start R o v g q k f (λ i a l. s i a (omega arith))
+  singles-told e start R o v g q k n f z false s =
       let c = R .whole in
       let p = R .pairs in
-      let z : take (start + e) v ≡ take start o ++ spread false (moduli a b) (even (level a b b)) w = rw (c, p) g in
-      singles-bad (moduli a b) (even (level a b b)) w o v start e z (omega arith) s
+      let x : take (start + e) v ≡ take start o ++ spread false (moduli a b) (even (level a b b)) w = rw (c, p) g in
+      singles-bad (moduli a b) (even (level a b b)) w o v start e x (omega arith) (wider v (omega arith) (omega arith) s)
 
 -- ---- a loop that has taken i of n bytes
 pub record Rising (w : List ℕ) (start n most i : ℕ) : Type 0 where

@@ -32,7 +32,7 @@ use Rattle.loops_theory.proofs.Answers.{places-room, holds-message, syn
 use Rattle.loops_theory.proofs.Segments.{weights-sum}
 use Rattle.loops_theory.proofs.Laying.{SinglesRoom, room-for}
 use Rattle.loops_theory.proofs.Rows.{drop-fill}
-use Rattle.loops_theory.proofs.Passing.{bits-join, bits-unfilled, bits-zero}
+use Rattle.loops_theory.proofs.Passing.{bits-join, bits-unfilled, bad-unfilled, bits-zero}
 
 -- a place of a word is a number of 32 bits
 pub bad-small : (t r d n : ℕ) (w : List ℕ) → Fits t r d n (length w) → n ≤ placesOf t → (x : ℕ) → x ≡ badFrom 1 w → x < 2 ^ 32
@@ -83,15 +83,13 @@ module _ (t r d : ℕ) (s : Shape) (e : s ≡ shapeFor t r) (w : List ℕ) (f : 
       let q : drop (s .message) (fill d w) ≡ drop (s .message - d) w = drop-fill d (s .message) w ∙ ap (λ (i : ℕ). zeroWord i ++ drop (s .message - d) w) o in
       c ∙ ap₂ (sum ms) a (b ∙ ap (syndromeOver ms (units ms)) (sym q)) ∙ syndrome-sum t r (fill d w) s k
 
-  pub parts-told : BitsIn (fill d w) 0 (messageIn (s .a) (s .b)) → (x : Bool) → Tells x w (s .message - d) (s .message - d + (s .a + 2 * s .b)) → Tells x w 0 (length w)
-  parts-told g true h =
+  pub parts-told : BitsIn w (s .message - d) (s .message - d + (s .a + 2 * s .b)) → (x : Bool) → Tells x (fill d w) 0 (messageIn (s .a) (s .b)) → Tells x w 0 (length w)
+  parts-told h true g =
       let z = sizes-known t r s k .front in
       let c = check-fits .1 in
-      let o : 0 - d ≡ 0 = omega arith in
-      let m : messageIn (s .a) (s .b) - d ≡ s .message - d = omega arith in
       let u : BitsIn w 0 (s .message - d) = λ i a b. bits-unfilled d w 0 (messageIn (s .a) (s .b)) g i (omega arith) (omega arith) in
       bits-join w 0 (s .message - d) (length w) u (λ i a b. h i a (omega arith))
-  parts-told g false h = h
+  parts-told h false g = bad-unfilled d w g
 
 -- ---- a message
 module _ (t r d : ℕ) (s : Shape) (e : s ≡ shapeFor t r) (m : List ℕ) (f : Fits t r d (messageOf t) (length m)) where

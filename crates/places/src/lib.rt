@@ -17,6 +17,9 @@ use group::Element;
 pub fn fault(t: u32, r: u32, s: u32, e: Element, word: &[u8]) -> u32
     ensures { λ x. ⌜ x ≡ faultAtFor t r s e (now (word .entry)) ⌝ }
 {
+    if group::is_zero(e) {
+        return 0;
+    }
     if parameters::fits_word(t, r, s, word.len()) {
         let h = parameters::shape_of(t, r);
         return place::fault_of(t, r, h, s as usize, e, word);

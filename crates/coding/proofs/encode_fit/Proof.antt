@@ -29,7 +29,9 @@ sub-message-sum : tie.Need-sub-message-sum
 sub-message-sum c = let q = c .before .before in let z = sizes-known _ _ _ (shaped _ _ _ _ _ (q .shape-of .ensures) (q .before .before .before .args .message .now) (q .before .before .before .pre .0)) in omega (arith, z .part)
 
 message-sum-requires : tie.Need-message-sum-requires
-message-sum-requires c κs = let q = c .before .before in holds-filled _ _ _ _ _ (q .shape-of .ensures) (q .before .before .before .args .message .now) (q .before .before .before .pre .0) (omega arith)
+message-sum-requires c κs =
+    let q = c .before .before in
+    (holds-filled _ _ _ _ _ (q .shape-of .ensures) (q .before .before .before .args .message .now) (q .before .before .before .pre .0) (omega arith), λ i h l. absurd (omega arith))
 
 -- what the pass over the message tells, where the test says x
 told : (c : tie.After-message-sum) (x : Bool) → c .message-sum .result .good ≡ x

@@ -18,13 +18,11 @@ use Rattle.coding.proofs.scan_fit.Tie as tie
 fits : (b : tie.Start) → let g = b .args in Fits (g .t) (g .r) (g .d) (placesOf (g .t)) (length (g .word .now))
 fits b = word-fits _ _ _ _ (b .pre)
 
--- what the test of the head says, and what the pass tells, where the test says x
-said : (c : tie.After-bits) (x : Bool) → c .bits .result ≡ x → Says x (c .before .before .before .args .word .now) 0 (c .before .head .result)
+-- what the test of the front says, and what the pass tells, where the test says x
+said : (c : tie.After-front) (x : Bool) → c .front .result ≡ x → Says x (c .before .before .before .args .word .now) 0 (c .before .head .result)
 said c x e =
     let w = c .before .before .before .args .word .now in
-    let n = c .before .head .result in
-    let z : 0 + n ≡ n = omega arith in
-    subst (λ (k : ℕ). Says x w 0 k) z (subst (λ (x : Bool). Says x w 0 (0 + n)) e (c .bits .ensures))
+    subst (λ (x : Bool). Says x w 0 (c .before .head .result)) e (c .front .ensures)
 
 told : (c : tie.After-pass) (x : Bool) → c .pass .result .good ≡ x → let w = c .before .before .before .before .before .args .word .now in Tells x w 0 (length w)
 told c x e = let w = c .before .before .before .before .before .args .word .now in subst (λ (x : Bool). Tells x w 0 (length w)) e (c .pass .ensures .0)
@@ -32,11 +30,11 @@ told c x e = let w = c .before .before .before .before .before .args .word .now 
 head-requires : tie.Need-head-requires
 head-requires c κs = search needs
 
-bits-requires : tie.Need-bits-requires
-bits-requires c κs = search needs
+front-requires : tie.Need-front-requires
+front-requires c κs = search needs
 
 pass-requires : tie.Need-pass-requires
-pass-requires c κs = fits (c .before .before .before .before)
+pass-requires c κs = let f = c .before in (fits (f .before .before .before), f .before .head .ensures, said f _ (c .if1 .taken))
 
 returns : tie.Need-returns
 returns c =
@@ -91,7 +89,7 @@ scan-fit-spec =
     tie.close
     (tie.spec
     head-requires
-    bits-requires
+    front-requires
     pass-requires
     returns
     first-bad-requires

@@ -13,15 +13,16 @@ fn runs_and_has_every_row() {
     let first = report.lines().next().expect("a line");
     assert!(first.ends_with(" 0 differences"), "{first}");
 
-    // 13 codes with six kinds of words, 6 of them at t = 10 and 7 at t = 12.
+    // 24 codes with seven kinds of words.
     let rows = |start: &str| {
         report
             .lines()
             .filter(|line| line.starts_with(start))
             .count()
     };
-    assert_eq!(rows("10 "), 6 * 6);
-    assert_eq!(rows("12 "), 7 * 6);
+    for (start, codes) in [(" 3 ", 2), (" 6 ", 4), (" 8 ", 5), ("10 ", 6), ("12 ", 7)] {
+        assert_eq!(rows(start), codes * 7, "t = {start}");
+    }
 }
 
 #[test]

@@ -2,23 +2,26 @@
 use borrow.Author.Needs.{needs}
 use mathlib.Core.Path.{_≡_, subst}
 use mathlib.Core.Logic.{⊎-elim}
-use Prim.Native.Nat.{ℕ, _+_, _-_, _*_}
+use Prim.Native.Nat.{ℕ, _+_, _-_, _*_, _<_, _≤_}
 use native.Mathlib.Omega.{arith}
 use lib.Dec.{leb}
 use Rattle.loops_theory.specs.Passing.{Highest, Says}
-use Rattle.loops_theory.proofs.Checking.{Seen, seen-start, seen-end, seen-two, seen-four, seen-one}
+use Rattle.loops_theory.proofs.Checking.{Seen, Unread, unread-start, unread-step, seen-start, seen-two, seen-four, seen-rest}
 use Rattle.loops_theory.proofs.Passing.{highest-none, highest-step, highest-steps, highest-says, says-tells}
 use Rattle.coding.proofs.check.read.Statement.{statement}
 use Rattle.coding.proofs.check.read.Tie as tie
 
 abbrev Inv-loop : tie.InvT-loop
-Inv-loop a b word start e₀ most₀ at₀ i₀ e most at i = Seen a b word start e at i × Highest word start at most
+Inv-loop a b word start n e₀ most₀ at₀ i₀ e most at i = Seen a b word start e at i × Unread e i × Highest word start at most × (i ≤ n)
 
 abbrev μ-loop : tie.MeasureT-loop
-μ-loop a b word start e₀ most₀ at₀ i₀ e most at i = 12 - i
+μ-loop a b word start n e₀ most₀ at₀ i₀ e most at i = n - i
+
+add-n : tie.Need-add-n Inv-loop μ-loop
+add-n c = search needs
 
 loop-holds : tie.Need-loop-holds Inv-loop μ-loop
-loop-holds c = (seen-start _ _ _ _, highest-none _ _)
+loop-holds c = (seen-start _ _ _ _, unread-start, highest-none _ _, omega arith)
 
 shared-slice-read-x : tie.Need-shared-slice-read-x Inv-loop μ-loop
 shared-slice-read-x c = search needs
@@ -56,9 +59,6 @@ larger-requires-3 c κs = search needs
 add-at-2 : tie.Need-add-at-2 Inv-loop μ-loop
 add-at-2 c = search needs
 
-array-write-e-3 : tie.Need-array-write-e-3 Inv-loop μ-loop
-array-write-e-3 c = search needs
-
 add-i : tie.Need-add-i Inv-loop μ-loop
 add-i c = search needs
 
@@ -68,20 +68,24 @@ loop-less c = search needs
 loop-again : tie.Need-loop-again Inv-loop μ-loop
 loop-again c =
     let l = c .before .before in
-    let h = c .before .loop-test .taken in
+    let k = l .before .before .pre .0 in
+    let t = c .before .loop-test .taken in
+    let h : l .loop .i < 12 = omega arith in
     let i = l .loop .inv in
     let p = i .0 .place in
     ⊎-elim
     (λ w. (
       rw (w .3, w .5) (seen-two _ _ _ _ _ _ _ (i .0) h (w .0 .taken)),
-      rw (w .4, w .5) (highest-step _ _ _ _ _ (omega arith) (i .1) (w .2 .ensures)),
+      rw (w .3) (unread-step _ _ _ (i .1)),
+      rw (w .4, w .5) (highest-step _ _ _ _ _ (omega arith) (i .2) (w .2 .ensures)),
+      omega arith,
     ))
-    (⊎-elim
     (λ w. (
-      rw (w .7, w .9, w .4 .ensures) (seen-four _ _ _ _ _ _ _ (i .0) h (w .0 .left) (w .1 .taken)),
-      rw (w .8, w .9) (highest-steps _ _ _ _ _ _ (omega arith) (i .1) (w .5 .ensures) (w .6 .ensures)),
+      rw (w .6, w .8, w .3 .ensures) (seen-four _ _ _ _ _ _ _ (i .0) h (w .0 .left) (omega arith)),
+      rw (w .6) (unread-step _ _ _ (i .1)),
+      rw (w .7, w .8) (highest-steps _ _ _ _ _ _ (omega arith) (i .2) (w .4 .ensures) (w .5 .ensures)),
+      omega arith,
     ))
-    (λ w. (rw (w .2, w .4) (seen-one _ _ _ _ _ _ _ (i .0) h (w .0 .left) (w .1 .left)), rw (w .3, w .4) (i .1))))
     (c .if1 .came)
 
 returns : tie.Need-returns Inv-loop μ-loop
@@ -92,10 +96,9 @@ returns c =
     let i = l .loop .inv in
     let p = i .0 .place in
     let h = c .loop-test .left in
-    let k = b .pre .0 in
     let e : l .loop .at ≡ b .args .start + (b .args .a + 2 * b .args .b) = omega arith in (
-      says-tells w (b .args .start) (b .args .start + (b .args .a + 2 * b .args .b)) (leb (l .loop .most) 1) (subst (λ (n : ℕ). Says (leb (l .loop .most) 1) w (b .args .start) n) e (highest-says w _ _ _ (i .1))),
-      seen-end _ _ _ _ _ _ _ (i .0) h,
+      says-tells w (b .args .start) (b .args .start + (b .args .a + 2 * b .args .b)) (leb (l .loop .most) 1) (subst (λ (n : ℕ). Says (leb (l .loop .most) 1) w (b .args .start) n) e (highest-says w _ _ _ (i .2))),
+      seen-rest _ _ _ _ _ _ _ (i .0) (i .1) h,
     )
 
 pub read-spec : {M : Type 1} → statement M
@@ -104,6 +107,7 @@ read-spec =
     (tie.spec
     Inv-loop
     μ-loop
+    add-n
     loop-holds
     shared-slice-read-x
     array-write-e
@@ -117,7 +121,6 @@ read-spec =
     larger-requires-2
     larger-requires-3
     add-at-2
-    array-write-e-3
     add-i
     loop-less
     loop-again

@@ -17,7 +17,7 @@ slice-aggregate-singles : tie.Need-slice-aggregate-singles
 slice-aggregate-singles c = search needs
 
 singles-requires : tie.Need-singles-requires
-singles-requires c κs = let b = c .before .before in (b .pre .0, holds-at b)
+singles-requires c κs = let b = c .before .before in (b .pre .0, holds-at b, b .pre .2)
 
 slice-aggregate-pairs : tie.Need-slice-aggregate-pairs
 slice-aggregate-pairs c = search needs

@@ -8,7 +8,7 @@ use Rattle.layout_theory.specs.Layout.{message}
 use Rattle.words_theory.specs.Syndrome.{syndromeOver}
 use Rattle.shortened_theory.specs.Code.{fill}
 use Rattle.loops_theory.specs.Spread.{messageIn, HoldsFilled}
-use Rattle.loops_theory.specs.Passing.{Tells}
+use Rattle.loops_theory.specs.Passing.{BitsIn, Tells}
 use Rattle.coding.proofs.weights.message_sum.Statement.{statement}
 use Rattle.coding.proofs.weights.message_sum.Tie as tie
 
@@ -16,7 +16,7 @@ whole-requires : tie.Need-whole-requires
 whole-requires c κs =
     let b = c .before .before in
     let g = b .args in
-    subst (λ (d : ℕ). HoldsFilled (g .a) (g .b) (g .count) (g .part) d (g .word .now)) (c .if1 .taken) (b .pre)
+    subst (λ (d : ℕ). HoldsFilled (g .a) (g .b) (g .count) (g .part) d (g .word .now) × BitsIn (fill d (g .word .now)) 0 (g .seen)) (c .if1 .taken) (b .pre)
 
 returns : tie.Need-returns
 returns c =

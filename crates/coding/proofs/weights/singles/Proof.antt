@@ -1,21 +1,22 @@
 -- `coding::weights::singles` meets its contract. Assumes nothing.
 use borrow.Author.Needs.{needs}
-use mathlib.Core.Path.{refl}
+use mathlib.Core.Path.{_≡_, refl}
 use mathlib.Core.List.{List}
 use Prim.Native.Nat.{ℕ, _+_, _-_, _*_, _^_}
 use native.Mathlib.Omega.{arith}
 use Rattle.shortened_theory.specs.Code.{fill}
 use Rattle.shortened_theory.proofs.Filling.{length-fill}
+use Rattle.loops_theory.specs.Passing.{BitsIn}
 use Rattle.loops_theory.proofs.Laying.{Singling, SegmentAsks, RestAsks, SinglesRoom, room-for, singling-start, singling-asks, singling-step, singling-end, singling-done}
 use Rattle.loops_theory.proofs.Passing.{singles-told}
 use Rattle.coding.proofs.weights.singles.Statement.{statement}
 use Rattle.coding.proofs.weights.singles.Tie as tie
 
 abbrev Inv-loop : tie.InvT-loop
-Inv-loop a b count part d word v₀ e start n₀ at₀ i₀ v n at i = Singling a b start (fill d word) v₀ v n at i
+Inv-loop a b count part d word seen v₀ e start n₀ at₀ i₀ v n at i = Singling a b start (fill d word) v₀ v n at i
 
 abbrev μ-loop : tie.MeasureT-loop
-μ-loop a b count part d word v₀ e start n₀ at₀ i₀ v n at i = a - i
+μ-loop a b count part d word seen v₀ e start n₀ at₀ i₀ v n at i = a - i
 
 abbrev filled : tie.Start Inv-loop μ-loop → List ℕ
 filled b = fill (b .args .d) (b .args .word .now)
@@ -172,15 +173,31 @@ bytes-requires c κs =
     let i = l .before .loop .inv in
     search needs
 
-bits-requires : tie.Need-bits-requires Inv-loop μ-loop
-bits-requires c κs =
-    let l = c .before .before .before .before .before in
+least-requires : tie.Need-least-requires Inv-loop μ-loop
+least-requires c κs = search needs
+
+add-bits : tie.Need-add-bits Inv-loop μ-loop
+add-bits c =
+    let m = c .before in
+    let l = m .before .before .before .before .before in
     let b = start-of (l .before) in
     let R = room-at b in
     let S = rest l in
-    let n = length-fill (b .args .d) (b .args .word .now) in
-    let f = b .pre .0 .few in
+    let k = m .least .ensures in
+    search needs
+
+sub-bits : tie.Need-sub-bits Inv-loop μ-loop
+sub-bits c = c .before .least .ensures .1
+
+bits-requires : tie.Need-bits-requires Inv-loop μ-loop
+bits-requires c κs =
+    let m = c .before in
+    let l = m .before .before .before .before .before in
+    let b = start-of (l .before) in
+    let R = room-at b in
+    let S = rest l in
     let i = l .before .loop .inv in
+    let k = m .least .ensures in
     search needs
 
 same-length : tie.Need-same-length Inv-loop μ-loop
@@ -188,14 +205,21 @@ same-length c = search needs
 
 returns : tie.Need-returns Inv-loop μ-loop
 returns c =
-    let q = c .before .before .before .before in
+    let m = c .before .before in
+    let q = m .before .before .before in
     let l = q .before .before in
     let b = start-of (l .before) in
+    let e = b .args .part + b .args .a + 1 in
+    let start = b .args .count - e in
+    let k = m .least .result in
     let R = room-at b in
     let S = rest l in
     let h = b .pre .1 .enough in
     let g = singling-done _ _ _ _ (filled b) (b .pre .0 .message) _ _ R _ _ _ _ _ _ (l .before .before .before .before .clear .ensures) (l .before .loop .inv) (l .loop-test .left) _ (q .bytes .ensures) in
-    (singles-told _ _ _ _ (filled b) (b .pre .0 .message) _ _ R (b .args .v .now) _ g (omega (arith, R .pairs, R .space)) (c .bits .result) (c .bits .ensures), g)
+    let n = m .least .ensures in
+    let f : BitsIn (filled b) 0 k = λ i a j. b .pre .2 i a (omega (arith, n .0)) in
+    let z : start + k + (e - k) ≡ start + e = omega (arith, n .1) in
+    (singles-told _ _ _ _ (filled b) (b .pre .0 .message) _ _ R (b .args .v .now) _ g (omega (arith, R .pairs, R .space)) k _ f z (c .bits .result) (c .bits .ensures), g)
 
 pub singles-spec : {M : Type 1} → statement M
 singles-spec =
@@ -220,6 +244,9 @@ singles-spec =
     add-bytes
     sub-bytes
     bytes-requires
+    least-requires
+    add-bits
+    sub-bits
     bits-requires
     same-length
     returns)

@@ -6,7 +6,9 @@ use Prim.Native.Nat.{ℕ, _-_, _<_}
 use native.Mathlib.Omega.{arith}
 use lib.Dec.{eqb}
 use lib.ListN.{getD}
+use Rattle.group_theory.specs.Group.{moduli, negative}
 use Rattle.layout_theory.specs.Parameters.{moduliFor}
+use Rattle.layout_theory.specs.Calls.{placeFor}
 use Rattle.layout_theory.proofs.Parameters.{Known, known}
 use Rattle.words_theory.specs.Calls.{faultAt, fault}
 use Rattle.words_theory.proofs.Shapes.{other-within}
@@ -29,11 +31,15 @@ neg-requires c κs = search needs
 place-of-requires : tie.Need-place-of-requires
 place-of-requires c κs = search needs
 
+-- what was looked for is minus the element
+found : (c : tie.After-place-of) → let g = c .before .before .before .args in c .place-of .result ≡ placeFor (g .t) (g .r) (negative (moduli (g .s .a) (g .s .b)) (g .e))
+found c = let g = c .before .before .before .args in c .place-of .ensures ∙ ap (λ (m : List ℕ). placeFor (g .t) (g .r) m) (c .before .neg .ensures)
+
 returns : tie.Need-returns
 returns c =
     let q = c .before in
     let s = q .before .before .before in
-    fault-nothing _ _ _ (shaped s) (s .args .word .now) _ _ _ (q .before .neg .ensures) (q .place-of .ensures) (c .if1 .taken) ∙ told s
+    fault-nothing _ _ _ (shaped s) (s .args .word .now) _ _ (found q) (c .if1 .taken) ∙ told s
 
 sub-i : tie.Need-sub-i
 sub-i c = search needs
@@ -89,7 +95,7 @@ returns-2 c =
     let o = c .before .before .before in
     let q = o .before .before in
     let s = q .before .before .before in
-    fault-something _ _ _ (shaped s) _ _ _ _ (q .before .neg .ensures) (q .place-of .ensures) (o .before .if1 .left) _ _ (o .other-index .ensures) (c .half .ensures)
+    fault-something _ _ _ (shaped s) _ _ _ (found q) (o .before .if1 .left) _ _ (o .other-index .ensures) (c .half .ensures)
     ∙ told s
 
 pub fault-of-spec : {M : Type 1} → statement M

@@ -10,15 +10,17 @@ pub enum Kind {
     OneFlip,
     TwoFlips,
     BadFirst,
+    BadBehind,
     BadMiddle,
     BadLast,
 }
 
-pub const KINDS: [Kind; 6] = [
+pub const KINDS: [Kind; 7] = [
     Kind::Clean,
     Kind::OneFlip,
     Kind::TwoFlips,
     Kind::BadFirst,
+    Kind::BadBehind,
     Kind::BadMiddle,
     Kind::BadLast,
 ];
@@ -30,6 +32,7 @@ impl Kind {
             Kind::OneFlip => "one flip",
             Kind::TwoFlips => "two flips",
             Kind::BadFirst => "a bad byte at the first place",
+            Kind::BadBehind => "a bad byte behind the front",
             Kind::BadMiddle => "a bad byte at the middle place",
             Kind::BadLast => "a bad byte at the last place",
         }
@@ -51,10 +54,21 @@ impl Kind {
             Kind::OneFlip => word[i] ^= 1,
             Kind::TwoFlips => [i, j].iter().for_each(|&index| word[index] ^= 1),
             Kind::BadFirst => word[0] = bad,
+            Kind::BadBehind => word[front(n).min(n - 1)] = bad,
             Kind::BadMiddle => word[n / 2] = bad,
             Kind::BadLast => word[n - 1] = bad,
         }
         word
+    }
+}
+
+/// As many bytes as the new call tests before its pass: a byte behind them is found the latest for
+/// the work that was done. In a shorter word it is the last.
+fn front(n: usize) -> usize {
+    if n < 1024 {
+        192
+    } else {
+        512
     }
 }
 
@@ -75,7 +89,15 @@ mod tests {
     #[test]
     fn words_are_of_their_kind_and_differ() {
         let code = Code::open(10, 7, 0).expect("admitted");
-        let expected = [(0, 1), (0, 0), (0, 0), (4, 1), (4, 512), (4, 1023)];
+        let expected = [
+            (0, 1),
+            (0, 0),
+            (0, 0),
+            (4, 1),
+            (4, 193),
+            (4, 512),
+            (4, 1023),
+        ];
         for (kind, told_of) in KINDS.into_iter().zip(expected) {
             let words = kind.words(&code, SAMPLES);
             assert!(words.iter().all(|word| told(&code, word) == told_of));

@@ -21,8 +21,8 @@ use std::process::ExitCode;
 use times::{Cell, Figures};
 
 const USAGE: &str = "usage: passes [--quick]";
-/// The t that are timed, each with every r: lengths 1,023 and 4,095.
-const LENGTHS: [u32; 2] = [10, 12];
+/// The t that are timed, each with every r: lengths 1,023 and 4,095, and three shorter ones.
+const LENGTHS: [u32; 5] = [3, 6, 8, 10, 12];
 /// Differences that are named; more are counted.
 const NAMED: usize = 20;
 

@@ -57,12 +57,17 @@ pub fn print(all: &[Figures]) {
     print_range(all);
 }
 
-/// How far the codes differ.
+/// How far the codes of each length differ.
 fn print_range(all: &[Figures]) {
-    println!("\nThe ratios of all codes, from the lowest to the highest:");
-    for kind in KINDS {
-        let rows = all.iter().filter(|figures| figures.kind == kind);
-        let (lowest, highest) = ends(rows.map(|figures| figures.ratio.median));
-        println!("  {:30} {lowest:.2} to {highest:.2}", kind.name());
+    println!("\nThe ratios of all codes of a length, from the lowest to the highest:");
+    let mut lengths: Vec<usize> = all.iter().map(|figures| figures.n).collect();
+    lengths.dedup();
+    for n in lengths {
+        for kind in KINDS {
+            let of_kind = |figures: &&Figures| figures.n == n && figures.kind == kind;
+            let rows = all.iter().filter(of_kind);
+            let (lowest, highest) = ends(rows.map(|figures| figures.ratio.median));
+            println!("  {n:4} {:30} {lowest:.2} to {highest:.2}", kind.name());
+        }
     }
 }
