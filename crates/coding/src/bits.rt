@@ -9,7 +9,7 @@ ghost use Rattle.words_theory.specs.Calls.{badFrom};
 ghost use Rattle.loops_theory.specs.Passing.{BitsIn, Highest, Says};
 
 // As many bytes as are looked at together where the lowest place is searched.
-const BLOCK: usize = 32;
+const BLOCK: usize = 16;
 
 // The lowest place of a byte above 1, or 0, where the bytes before an index are 0 or 1: block by block, and in a
 // block that has one byte by byte.

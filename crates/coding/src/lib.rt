@@ -36,7 +36,7 @@ pub fn scan(t: u32, r: u32, s: u32, word: &[u8]) -> Scanned
     }
 }
 
-// The same for a word of its length.
+// The same for a word of its length: its front is tested, and then the pass is made.
 fn scan_fit(t: u32, r: u32, d: usize, word: &[u8]) -> Scanned
     requires { ⌜ fitsWord t r d (length (now word)) ≡ true ⌝ }
     ensures { λ x. ⌜ x ≡ scannedFor t r d (now (word .entry)) ⌝ }

@@ -23,7 +23,8 @@ ghost use Rattle.loops_theory.specs.Passing.{BitsIn, Highest, Says, Tells};
 use crate::bits;
 use crate::part::Part;
 
-// The sum of the message's places: each single's byte and each pair's digit times its element.
+// The sum of the message's places: each single's byte and each pair's digit times its element. The first `seen`
+// bytes of the filled word were tested before.
 pub(crate) fn message_sum(
     a: usize,
     b: usize,
@@ -315,7 +316,7 @@ fn every_other(i: usize, x: u8) -> u8
 }
 
 // The weights of the singles, behind those of the pairs: zero, for each binary component a segment, and the
-// others, among which there is no unit.
+// others, among which there is no unit. They are tested from the index `seen` on: no byte stands behind its weight.
 fn singles(
     a: usize,
     b: usize,

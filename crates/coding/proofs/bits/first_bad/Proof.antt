@@ -39,8 +39,8 @@ loop-again c =
     let i = l .loop .start in
     let h = c .before .before .loop-test .taken in
     let k = l .loop .inv .0 in
-    let f = subst (λ (x : Bool). Says x w i (i + 32)) (c .if1 .taken) (c .before .bits .ensures) in
-    (omega arith, sym (bad-skip w i 32 (omega arith) f) ∙ l .loop .inv .1)
+    let f = subst (λ (x : Bool). Says x w i (i + 16)) (c .if1 .taken) (c .before .bits .ensures) in
+    (omega arith, sym (bad-skip w i 16 (omega arith) f) ∙ l .loop .inv .1)
 
 bad-from-requires : tie.Need-bad-from-requires Inv-loop μ-loop
 bad-from-requires c κs = search needs
