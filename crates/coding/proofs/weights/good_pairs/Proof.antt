@@ -1,9 +1,11 @@
 -- `coding::weights::good_pairs` meets its contract. Assumes nothing.
 use borrow.Author.Needs.{needs}
-use mathlib.Core.Path.{subst}
+use mathlib.Core.Path.{_≡_, subst}
 use mathlib.Core.Bool.{Bool, true, false≢true}
-use Prim.Native.Nat.{ℕ, _+_, _-_, _*_}
+use Prim.Native.Nat.{ℕ, _+_, _-_, _*_, _%_, _≤_}
 use native.Mathlib.Omega.{arith}
+use lib.ListN.{length}
+use Rattle.folds_theory.specs.Folds.{room}
 use Rattle.shortened_theory.specs.Code.{fill}
 use Rattle.shortened_theory.proofs.Filling.{length-fill}
 use Rattle.loops_theory.specs.Passing.{BitsIn, Says}
@@ -26,83 +28,45 @@ loop-holds c =
     let b = c .before .before .before in
     (pairing-start _ _ _ _ _ (b .pre .0 .message) _ _ (c .power .ensures) (b .pre .1), λ i h l. absurd (omega arith))
 
--- what the next segment asks
-segment : (l : tie.In-loop Inv-loop μ-loop)
-    → let s = l .before .before .before .before .before in let v = l .before .loop in
-    Segment (s .args .a) (s .args .b) (s .args .count) (s .args .part) (fill (s .args .d) (s .args .word .now)) (s .pre .0 .message) (v .p) (v .e) (v .at) (v .j)
-segment l =
+-- what the next segment asks, how long the filled word is, and where its pairs begin
+known : (l : tie.In-loop Inv-loop μ-loop)
+    → let s = l .before .before .before .before .before in let g = s .args in let w = fill (g .d) (g .word .now) in let v = l .before .loop in
+    Segment (g .a) (g .b) (g .count) (g .part) w (s .pre .0 .message) (v .p) (v .e) (v .at) (v .j) × (length w ≡ g .d + length (g .word .now)) × (g .d ≤ room) × ((g .d - v .at) % 2 ≡ 0)
+known l =
     let s = l .before .before .before .before .before in
-    pairing-asks _ _ _ _ _ (s .pre .0 .message) _ _ _ _ _ _ (l .before .loop .inv .0) (l .loop-test .taken)
+    let i = l .before .loop .inv .0 in (
+      pairing-asks _ _ _ _ _ (s .pre .0 .message) _ _ _ _ _ _ i (l .loop-test .taken),
+      length-fill (s .args .d) (s .args .word .now),
+      s .pre .0 .few,
+      pairs-whole _ _ _ _ _ (s .pre .0 .message) _ (s .pre .0 .ends) _ _ _ _ _ _ i,
+    )
 
 mul-n : tie.Need-mul-n Inv-loop μ-loop
-mul-n c = let l = c in let S = segment l in let i = l .before .loop .inv .0 in search needs
+mul-n c = let k = known c in search needs
 
 add-n : tie.Need-add-n Inv-loop μ-loop
-add-n c = let l = c in let S = segment l in let i = l .before .loop .inv .0 in search needs
+add-n c = let k = known c in search needs
 
 sub-n : tie.Need-sub-n Inv-loop μ-loop
-sub-n c = let l = c in let S = segment l in let i = l .before .loop .inv .0 in search needs
+sub-n c = let k = known c in search needs
 
 pair-segment-requires : tie.Need-pair-segment-requires Inv-loop μ-loop
-pair-segment-requires c κs =
-    let l = c .before in
-    let s = l .before .before .before .before .before in
-    let S = segment l in
-    let i = l .before .loop .inv .0 in
-    let f = s .pre .0 .few in
-    let n = length-fill (s .args .d) (s .args .word .now) in
-    let w = pairs-whole _ _ _ _ _ (s .pre .0 .message) _ (s .pre .0 .ends) _ _ _ _ _ _ i in
-    search needs
+pair-segment-requires c κs = let k = known (c .before) in let i = c .before .before .loop .inv .0 in search needs
 
 mul-at : tie.Need-mul-at Inv-loop μ-loop
-mul-at c =
-    let l = c .before .before .before .before .before in
-    let s = l .before .before .before .before .before in
-    let n = length-fill (s .args .d) (s .args .word .now) in
-    let f = s .pre .0 .few in
-    let S = segment l in
-    let i = l .before .loop .inv .0 in
-    search needs
+mul-at c = let k = known (c .before .before .before .before .before) in search needs
 
 add-at : tie.Need-add-at Inv-loop μ-loop
-add-at c =
-    let l = c .before .before .before .before .before in
-    let s = l .before .before .before .before .before in
-    let n = length-fill (s .args .d) (s .args .word .now) in
-    let f = s .pre .0 .few in
-    let S = segment l in
-    let i = l .before .loop .inv .0 in
-    search needs
+add-at c = let k = known (c .before .before .before .before .before) in search needs
 
 mul-p : tie.Need-mul-p Inv-loop μ-loop
-mul-p c =
-    let l = c .before .before .before .before .before in
-    let s = l .before .before .before .before .before in
-    let n = length-fill (s .args .d) (s .args .word .now) in
-    let f = s .pre .0 .few in
-    let S = segment l in
-    let i = l .before .loop .inv .0 in
-    search needs
+mul-p c = let k = known (c .before .before .before .before .before) in search needs
 
 add-p : tie.Need-add-p Inv-loop μ-loop
-add-p c =
-    let l = c .before .before .before .before .before in
-    let s = l .before .before .before .before .before in
-    let n = length-fill (s .args .d) (s .args .word .now) in
-    let f = s .pre .0 .few in
-    let S = segment l in
-    let i = l .before .loop .inv .0 in
-    search needs
+add-p c = let k = known (c .before .before .before .before .before) in search needs
 
 mul-e : tie.Need-mul-e Inv-loop μ-loop
-mul-e c =
-    let l = c .before .before .before .before .before in
-    let s = l .before .before .before .before .before in
-    let n = length-fill (s .args .d) (s .args .word .now) in
-    let f = s .pre .0 .few in
-    let S = segment l in
-    let i = l .before .loop .inv .0 in
-    search needs
+mul-e c = let k = known (c .before .before .before .before .before) in search needs
 
 add-j : tie.Need-add-j Inv-loop μ-loop
 add-j c = search needs

@@ -2,8 +2,10 @@
 use borrow.Author.Needs.{needs}
 use mathlib.Core.Path.{_≡_, refl}
 use mathlib.Core.List.{List}
-use Prim.Native.Nat.{ℕ, _+_, _-_, _*_, _^_}
+use Prim.Native.Nat.{ℕ, _+_, _-_, _*_, _^_, _≤_}
 use native.Mathlib.Omega.{arith}
+use lib.ListN.{length}
+use Rattle.folds_theory.specs.Folds.{room}
 use Rattle.shortened_theory.specs.Code.{fill}
 use Rattle.shortened_theory.proofs.Filling.{length-fill}
 use Rattle.loops_theory.specs.Passing.{BitsIn}
@@ -21,9 +23,18 @@ abbrev μ-loop : tie.MeasureT-loop
 abbrev filled : tie.Start Inv-loop μ-loop → List ℕ
 filled b = fill (b .args .d) (b .args .word .now)
 
--- how many weights there are of each kind
-room-at : (b : tie.Start Inv-loop μ-loop) → SinglesRoom (b .args .a) (b .args .b) (b .args .count) (b .args .part) (filled b) (b .pre .0 .message) (b .args .part + b .args .a + 1) (b .args .count - (b .args .part + b .args .a + 1))
+-- how many weights there are of each kind, and how long the filled word is
+abbrev Room : tie.Start Inv-loop μ-loop → Type 0
+Room b = SinglesRoom (b .args .a) (b .args .b) (b .args .count) (b .args .part) (filled b) (b .pre .0 .message) (b .args .part + b .args .a + 1) (b .args .count - (b .args .part + b .args .a + 1))
+
+room-at : (b : tie.Start Inv-loop μ-loop) → Room b
 room-at b = room-for (b .args .a) (b .args .b) (b .args .count) (b .args .part) (filled b) (b .pre .0 .message) _ _ refl refl
+
+abbrev Sized : tie.Start Inv-loop μ-loop → Type 0
+Sized b = Room b × (length (filled b) ≡ b .args .d + length (b .args .word .now)) × (b .args .d ≤ room)
+
+sized : (b : tie.Start Inv-loop μ-loop) → Sized b
+sized b = (room-at b, length-fill (b .args .d) (b .args .word .now), b .pre .0 .few)
 
 add-e : tie.Need-add-e Inv-loop μ-loop
 add-e c = let R = room-at (c .before .before) in search needs
@@ -49,83 +60,35 @@ start-of l = l .before .before .before .before .before .before .before
 -- what the next segment asks, and what the bytes after the last one ask
 segment : (l : tie.In-loop Inv-loop μ-loop)
     → let b = start-of (l .before) in let s = l .before .loop in
-    SegmentAsks (filled b) (s .v) (b .args .count - (b .args .part + b .args .a + 1)) (s .n) (s .at)
+    Sized b × SegmentAsks (filled b) (s .v) (b .args .count - (b .args .part + b .args .a + 1)) (s .n) (s .at)
 segment l =
     let b = start-of (l .before) in
-    singling-asks _ _ _ _ (filled b) (b .pre .0 .message) _ _ (room-at b) _ _ _ _ _ (l .before .loop .inv) (l .loop-test .taken)
+    (sized b, singling-asks _ _ _ _ (filled b) (b .pre .0 .message) _ _ (room-at b) _ _ _ _ _ (l .before .loop .inv) (l .loop-test .taken))
 
 rest : (l : tie.After-loop Inv-loop μ-loop)
     → let b = start-of (l .before) in let s = l .before .loop in let e = b .args .part + b .args .a + 1 in
-    RestAsks (filled b) (s .v) (b .args .count - e) e (s .n) (s .at)
+    Sized b × RestAsks (filled b) (s .v) (b .args .count - e) e (s .n) (s .at)
 rest l =
     let b = start-of (l .before) in
-    singling-end _ _ _ _ (filled b) (b .pre .0 .message) _ _ (room-at b) _ _ _ _ _ (l .before .loop .inv) (l .loop-test .left)
+    (sized b, singling-end _ _ _ _ (filled b) (b .pre .0 .message) _ _ (room-at b) _ _ _ _ _ (l .before .loop .inv) (l .loop-test .left))
 
 add-single-segment : tie.Need-add-single-segment Inv-loop μ-loop
-add-single-segment c =
-    let l = c .before in
-    let b = start-of (l .before) in
-    let R = room-at b in
-    let S = segment l in
-    let n = length-fill (b .args .d) (b .args .word .now) in
-    let f = b .pre .0 .few in
-    let i = l .before .loop .inv in
-    search needs
+add-single-segment c = let S = segment (c .before) in search needs
 
 sub-single-segment : tie.Need-sub-single-segment Inv-loop μ-loop
-sub-single-segment c =
-    let l = c .before in
-    let b = start-of (l .before) in
-    let R = room-at b in
-    let S = segment l in
-    let n = length-fill (b .args .d) (b .args .word .now) in
-    let f = b .pre .0 .few in
-    let i = l .before .loop .inv in
-    search needs
+sub-single-segment c = let S = segment (c .before) in search needs
 
 single-segment-requires : tie.Need-single-segment-requires Inv-loop μ-loop
-single-segment-requires c κs =
-    let l = c .before in
-    let b = start-of (l .before) in
-    let R = room-at b in
-    let S = segment l in
-    let n = length-fill (b .args .d) (b .args .word .now) in
-    let f = b .pre .0 .few in
-    let i = l .before .loop .inv in
-    search needs
+single-segment-requires c κs = let S = segment (c .before) in search needs
 
 sub-at : tie.Need-sub-at Inv-loop μ-loop
-sub-at c =
-    let l = c .before .before .before .before in
-    let b = start-of (l .before) in
-    let R = room-at b in
-    let S = segment l in
-    let n = length-fill (b .args .d) (b .args .word .now) in
-    let f = b .pre .0 .few in
-    let i = l .before .loop .inv in
-    search needs
+sub-at c = let S = segment (c .before .before .before .before) in search needs
 
 add-at : tie.Need-add-at Inv-loop μ-loop
-add-at c =
-    let l = c .before .before .before .before in
-    let b = start-of (l .before) in
-    let R = room-at b in
-    let S = segment l in
-    let n = length-fill (b .args .d) (b .args .word .now) in
-    let f = b .pre .0 .few in
-    let i = l .before .loop .inv in
-    search needs
+add-at c = let S = segment (c .before .before .before .before) in search needs
 
 mul-n : tie.Need-mul-n Inv-loop μ-loop
-mul-n c =
-    let l = c .before .before .before .before in
-    let b = start-of (l .before) in
-    let R = room-at b in
-    let S = segment l in
-    let n = length-fill (b .args .d) (b .args .word .now) in
-    let f = b .pre .0 .few in
-    let i = l .before .loop .inv in
-    search needs
+mul-n c = let S = segment (c .before .before .before .before) in search needs
 
 add-i : tie.Need-add-i Inv-loop μ-loop
 add-i c = search needs
@@ -141,64 +104,25 @@ loop-again c =
     singling-step _ _ _ _ (filled b) (b .pre .0 .message) _ _ (room-at b) _ _ _ _ _ (l .before .loop .inv) (l .loop-test .taken) _ (search needs) (c .before .before .single-segment .ensures)
 
 add-bytes : tie.Need-add-bytes Inv-loop μ-loop
-add-bytes c =
-    let l = c .before in
-    let b = start-of (l .before) in
-    let R = room-at b in
-    let S = rest l in
-    let n = length-fill (b .args .d) (b .args .word .now) in
-    let f = b .pre .0 .few in
-    let i = l .before .loop .inv in
-    search needs
+add-bytes c = let S = rest (c .before) in search needs
 
 sub-bytes : tie.Need-sub-bytes Inv-loop μ-loop
-sub-bytes c =
-    let l = c .before in
-    let b = start-of (l .before) in
-    let R = room-at b in
-    let S = rest l in
-    let n = length-fill (b .args .d) (b .args .word .now) in
-    let f = b .pre .0 .few in
-    let i = l .before .loop .inv in
-    search needs
+sub-bytes c = let S = rest (c .before) in search needs
 
 bytes-requires : tie.Need-bytes-requires Inv-loop μ-loop
-bytes-requires c κs =
-    let l = c .before in
-    let b = start-of (l .before) in
-    let R = room-at b in
-    let S = rest l in
-    let n = length-fill (b .args .d) (b .args .word .now) in
-    let f = b .pre .0 .few in
-    let i = l .before .loop .inv in
-    search needs
+bytes-requires c κs = let S = rest (c .before) in search needs
 
 least-requires : tie.Need-least-requires Inv-loop μ-loop
 least-requires c κs = search needs
 
 add-bits : tie.Need-add-bits Inv-loop μ-loop
-add-bits c =
-    let m = c .before in
-    let l = m .before .before .before .before .before in
-    let b = start-of (l .before) in
-    let R = room-at b in
-    let S = rest l in
-    let k = m .least .ensures in
-    search needs
+add-bits c = let m = c .before in let S = rest (m .before .before .before .before .before) in let k = m .least .ensures in search needs
 
 sub-bits : tie.Need-sub-bits Inv-loop μ-loop
 sub-bits c = c .before .least .ensures .1
 
 bits-requires : tie.Need-bits-requires Inv-loop μ-loop
-bits-requires c κs =
-    let m = c .before in
-    let l = m .before .before .before .before .before in
-    let b = start-of (l .before) in
-    let R = room-at b in
-    let S = rest l in
-    let i = l .before .loop .inv in
-    let k = m .least .ensures in
-    search needs
+bits-requires c κs = let m = c .before in let S = rest (m .before .before .before .before .before) in let k = m .least .ensures in search needs
 
 same-length : tie.Need-same-length Inv-loop μ-loop
 same-length c = search needs
