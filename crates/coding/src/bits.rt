@@ -6,7 +6,7 @@ ghost use lib.Dec.{ltb};
 ghost use lib.ListN.{length, drop};
 ghost use Rattle.layout_theory.specs.Choice.{pick};
 ghost use Rattle.words_theory.specs.Calls.{badFrom};
-ghost use Rattle.loops_theory.specs.Passing.{BitsIn, Highest, Says};
+ghost use Rattle.loops_theory.specs.Passing.{BitsIn, Highest, Says, headOf};
 
 // As many bytes as are looked at together where the lowest place is searched.
 const BLOCK: usize = 16;
@@ -31,7 +31,7 @@ pub(crate) fn first_bad(word: &[u8], begin: usize) -> usize
 // As many bytes of a word as are tested before the pass: all of a short one. The array that the pass lays out costs
 // more than the whole test of a word whose bad byte is near its front.
 pub(crate) fn head(count: usize) -> usize
-    ensures { λ x. ⌜ x ≤ count ⌝ }
+    ensures { λ x. ⌜ x ≡ headOf count ⌝ }
 {
     if count < 192 {
         return count;
@@ -39,19 +39,19 @@ pub(crate) fn head(count: usize) -> usize
     if count < 1024 { 192 } else { 512 }
 }
 
-// Whether these bytes of a word are 0 or 1. The two lengths are written out, so that the loops over so many bytes
-// are compiled for them.
-pub(crate) fn front(word: &[u8], head: usize) -> bool
-    requires { ⌜ head ≤ length (now word) ⌝ }
-    ensures { λ x. ⌜ Says x (now (word .entry)) 0 head ⌝ }
+// Whether so many bytes of a word are 0 or 1. The lengths are written out again, so that the loops over 192 and 512
+// bytes are compiled for them.
+pub(crate) fn front(word: &[u8]) -> bool
+    ensures { λ x. ⌜ Says x (now (word .entry)) 0 (headOf (length (now (word .entry)))) ⌝ }
 {
-    if head == 192 {
+    let n = word.len();
+    if n < 192 {
+        return bits(word, 0, n);
+    }
+    if n < 1024 {
         return bits(word, 0, 192);
     }
-    if head == 512 {
-        return bits(word, 0, 512);
-    }
-    bits(word, 0, head)
+    bits(word, 0, 512)
 }
 
 // The lowest place byte by byte, from an index on.

@@ -41,8 +41,8 @@ fn scan_fit(t: u32, r: u32, d: usize, word: &[u8]) -> Scanned
     requires { ⌜ fitsWord t r d (length (now word)) ≡ true ⌝ }
     ensures { λ x. ⌜ x ≡ scannedFor t r d (now (word .entry)) ⌝ }
 {
-    let head = bits::head(word.len());
-    if bits::front(word, head) {
+    if bits::front(word) {
+        let head = bits::head(word.len());
         let p = pass(t, r, d, word, head);
         let good = p.good;
         if good {

@@ -20,7 +20,7 @@ use Rattle.words_theory.specs.Words.{Bits}
 use Rattle.words_theory.specs.Calls.{badFrom}
 use Rattle.words_theory.proofs.Bad.{bad-step, bits-none, none-bits}
 use Rattle.shortened_theory.specs.Code.{fill}
-use Rattle.loops_theory.specs.Passing.{BitsIn, BadIn, Says, Tells, Highest}
+use Rattle.loops_theory.specs.Passing.{BitsIn, BadIn, Says, Tells, Highest, headOf}
 use Rattle.shortened_theory.specs.Allowed.{EndsWhole}
 use Rattle.loops_theory.specs.Spread.{messageIn, spread, HoldsMessage}
 use Rattle.loops_theory.proofs.Cuts.{getD-left, getD-fill, getD-kept}
@@ -359,3 +359,21 @@ highest-steps w s e x y z h f g l =
 pub tells-pairs : (w : List ℕ) (part end : ℕ) (t : Bool) → BitsIn w 0 part → Tells t w part end → Tells t w 0 end
 tells-pairs w part end true f g = bits-join w 0 part end f g
 tells-pairs w part end false f g = g
+
+-- ---- the front of a word
+pub head-short : (n : ℕ) → n < 192 → headOf n ≡ n
+head-short n h = rw (lt-ltb n 192 h)
+
+pub head-middle : (n : ℕ) → 192 ≤ n → n < 1024 → headOf n ≡ 192
+head-middle n h k = rw (le-ltb n 192 h, lt-ltb n 1024 k)
+
+pub head-long : (n : ℕ) → 192 ≤ n → 1024 ≤ n → headOf n ≡ 512
+head-long n h k = rw (le-ltb n 192 h, le-ltb n 1024 k)
+
+pub head-within : (n : ℕ) → headOf n ≤ n
+head-within n = go (decLt n 192) (decLt n 1024)
+  where
+    go : Dec (n < 192) → Dec (n < 1024) → headOf n ≤ n
+    go (yes h) k = let e = head-short n h in omega arith
+    go (no h) (yes k) = let e = head-middle n (omega arith) k in omega arith
+    go (no h) (no k) = let e = head-long n (omega arith) (omega arith) in omega arith

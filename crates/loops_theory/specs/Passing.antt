@@ -2,7 +2,9 @@
 use mathlib.Core.Bool.{Bool, true, false}
 use mathlib.Core.List.{List}
 use Prim.Native.Nat.{ℕ, _+_, _<_, _≤_}
+use lib.Dec.{ltb}
 use lib.ListN.{length, getD}
+use Rattle.layout_theory.specs.Choice.{pick}
 
 -- the bytes from the index `start` up to `end` are 0 or 1; or one of them is not
 abbrev pub BitsIn : List ℕ → ℕ → ℕ → Type 0
@@ -28,3 +30,7 @@ Tells false w start end = BadIn w 0 (length w)
 pub record Highest (w : List ℕ) (start end x : ℕ) : Type 0 where
   pub most : (i : ℕ) → start ≤ i → i < end → getD w i 0 ≤ x
   pub some : 1 < x → BadIn w start end
+
+-- as many bytes of a word of n as are tested before the pass
+abbrev pub headOf : ℕ → ℕ
+headOf n = pick (ltb n 192) n (pick (ltb n 1024) 192 512)
