@@ -62,8 +62,8 @@ impl Kind {
     }
 }
 
-/// As many bytes as the new call tests before its pass: a byte behind them is found the latest for
-/// the work that was done. In a shorter word it is the last.
+/// As many bytes as the new call tests before its pass: the byte behind them is the first that only
+/// the pass finds. In a shorter word the last is taken.
 fn front(n: usize) -> usize {
     if n < 1024 {
         192
