@@ -56,28 +56,32 @@ fn on_word(line: &[u8], g: Given, first: &[u8], second: &[u8], out: &mut [u8]) -
         line,
         b"syndrome () [];\
         is_codeword () [];\
-        read_message () [];",
+        read_message () [];\
+        ask () [];",
     ) {
         0 => element(coder::syndrome(g.record, first)),
         1 => tested(coder::is_codeword(g.record, first)),
         2 => shown(coder::read_message(g.record, first)),
+        3 => told(coder::ask(g.record, first)),
         _ => with_output(line, g, first, second, out),
     }
 }
 
-// Calls that write an output.
+// Calls that write an output; to commit it is the word itself.
 fn with_output(line: &[u8], g: Given, first: &[u8], second: &[u8], out: &mut [u8]) -> Turn {
     match form(
         line,
         b"encode () [] {};\
         correct () [] {};\
         combine () [] [] {};\
-        invert () [] {};",
+        invert () [] {};\
+        commit () 0 {};",
     ) {
         0 => wrote(coder::encode(g.record, first, out), out),
         1 => corrected(coder::correct(g.record, first, out), out),
         2 => wrote(coder::combine(g.record, first, second, out), out),
         3 => wrote(coder::invert(g.record, first, out), out),
+        4 => corrected(coder::commit(g.record, g.two, out), out),
         _ => Turn::Malformed,
     }
 }

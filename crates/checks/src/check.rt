@@ -7,7 +7,7 @@ ghost use Prim.Native.Nat.{_<_};
 ghost use lib.Dec.{eqb, ltb};
 ghost use lib.ListN.{length};
 ghost use Rattle.coder_theory.specs.State.{placesIn};
-ghost use Rattle.coder_theory.specs.Reasons.{firstReason, leftOut, full, wrongLength, shortOutput, badByte, badPlace};
+ghost use Rattle.coder_theory.specs.Reasons.{firstReason, leftOut, full, notAsked, wrongLength, shortOutput, badByte, badPlace};
 ghost use Rattle.coder_theory.specs.Calls.{answerOf, stateReasons, writeReasons, combineReasons, placesReasons};
 use crate::fit;
 use coder_theory::Answer;
@@ -78,6 +78,19 @@ pub fn correction(record: Record, q: u32) -> u32
         return 11;
     }
     if all == FULL {
+        return 23;
+    }
+    0
+}
+
+// 24 and 23 of a commit that claims a place, where asking gave another.
+pub fn claim(record: Record, claimed: u32, asked: u32) -> u32
+    ensures { λ x. ⌜ x ≡ firstReason (notAsked claimed asked ∷ full «record» ∷ []) .number ⌝ }
+{
+    if claimed != asked {
+        return 24;
+    }
+    if record.words == FULL {
         return 23;
     }
     0

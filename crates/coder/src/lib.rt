@@ -14,6 +14,7 @@ ghost use Rattle.coder_theory.specs.State.{fresh, placesIn};
 ghost use Rattle.coder_theory.specs.Reasons.{firstReason};
 ghost use Rattle.coder_theory.specs.Calls.{answerOf, writeReasons, inForce, refusedOpening, refusedElement, opened, elementAnswer, wordLength, messageLength, syndromeAnswer, codewordAnswer, shown};
 ghost use Rattle.coder_theory.specs.Calls.{encodeAnswer, encodeOutput, correctAnswer, correctOutput, combineAnswer, combineOutput, invertAnswer, invertOutput, thirdAnswer};
+ghost use Rattle.coder_theory.specs.Calls.{askAnswer, commitAnswer, commitOutput};
 use checks::check;
 use checks::fit;
 pub use coder_theory::Answer;
@@ -214,6 +215,64 @@ pub fn correct(record: Record, word: &[u8], out: &mut [u8]) -> Corrected
         refusal: x,
         place: p,
         record: count::counted(record, p),
+    }
+}
+
+// The place that correction would change, 0 for a codeword; nothing is counted. Refused with 21, 22, 10, 2, 4
+// and 11, where there is none.
+pub fn ask(record: Record, word: &[u8]) -> Answer
+    ensures { λ x. ⌜ x ≡ askAnswer «record» (now (word .entry)) ⌝ }
+{
+    let a = received(record, word, word.len());
+    let refusal = a.refusal;
+    if refusal != 0 {
+        return Answer {
+            refusal,
+            place: a.place,
+        };
+    }
+    let e = a.syndrome;
+    let q = fault(record, e, word);
+    if shortened::is_left_out(record.s, q) {
+        return Answer {
+            refusal: 11,
+            place: 0,
+        };
+    }
+    Answer {
+        refusal: 0,
+        place: new_place(record, q),
+    }
+}
+
+// Flips a claimed place in the caller's own word, and counts it; place 0 flips none. Refused with 21, 22, 10, 2,
+// 4, 11, 24, where asking gives another place for the word, and 23.
+pub fn commit(record: Record, place: u32, word: &mut [u8]) -> Corrected
+    ensures answer { λ x. ⌜ x ≡ commitAnswer «record» place (now (word .entry)) ⌝ }
+    ensures bytes { λ x. ⌜ now (word .exit) ≡ commitOutput «record» place (now (word .entry)) ⌝ }
+{
+    let a = ask(record, word);
+    let refusal = a.refusal;
+    if refusal != 0 {
+        return Corrected {
+            refusal,
+            place: a.place,
+            record,
+        };
+    }
+    let x = check::claim(record, place, a.place);
+    if x != 0 {
+        return Corrected {
+            refusal: x,
+            place: 0,
+            record,
+        };
+    }
+    coding::flip_in_place(place, word);
+    Corrected {
+        refusal: x,
+        place,
+        record: count::counted(record, place),
     }
 }
 

@@ -1,22 +1,21 @@
 -- Each call on a record is accepted exactly where plain facts hold: `accepts`. Its statement is in specs/Demand1. Assumes nothing.
-use mathlib.Core.Path.{_≡_, refl, sym, ap, _∙_}
+use mathlib.Core.Path.{_≡_, refl, sym, ap, subst, _∙_}
 use mathlib.Core.Logic.{_≢_, _↔_}
 use mathlib.Core.List.{List}
-use mathlib.Core.Bool.{false}
-use Prim.Native.Nat.{ℕ}
+use Prim.Native.Nat.{ℕ, _-_, _≤_}
 use native.Mathlib.Omega.{arith}
-use borrow.Author.Tests.{eqb-true, ltb-false, eqb-false, not-false}
-use lib.Dec.{eqb}
+use borrow.Author.Tests.{ltb-false, eqb-false}
 use lib.ListN.{length}
-use Rattle.words_theory.specs.Words.{Word}
-use Rattle.shortened_theory.specs.Code.{shortenedCorrected}
-use Rattle.coder_theory.specs.State.{Usable, moduliIn, placesIn, messageIn, correctedOldPlaceIn, FallsOut, fullCount, counted}
-use Rattle.coder_theory.specs.Reasons.{wrongLength, badByte, badPlace}
-use Rattle.coder_theory.specs.Calls.{layoutReasons, wordReasons, syndromeAnswer, codewordAnswer, encodeReasons, encodeAnswer, correctAnswer}
+use Rattle.words_theory.specs.Words.{flip}
+use Rattle.words_theory.specs.Syndrome.{lengthOf}
+use Rattle.words_theory.proofs.Theorem.{length-code}
+use Rattle.shortened_theory.specs.Code.{shortenedCorrected, shortenedCorrectedPlace}
+use Rattle.coder_theory.specs.State.{Usable, moduliIn, placesIn, messageIn, correctedPlaceIn, correctedOldPlaceIn, FallsOut, fullCount, counted}
+use Rattle.coder_theory.specs.Calls.{layoutReasons, wordReasons, syndromeAnswer, codewordAnswer, encodeReasons, encodeAnswer, correctAnswer, askAnswer, commitAnswer}
 use Rattle.coder_theory.specs.Calls.{combineReasons, combineAnswer, invertReasons, invertAnswer, thirdReasons, thirdAnswer}
 use Rattle.coder_theory.specs.Demand2.{Thirds}
 use Rattle.coder_theory.specs.Demand3Shortened.{HasNear}
-use Rattle.coder_theory.specs.Demand1.{ThreeIn, IsPlace, IsWord, HasRoom, AcceptsIn}
+use Rattle.coder_theory.specs.Demand1.{CodewordIn, ThreeIn, wordPlaces, IsPlace, IsWord, HasRoom, AcceptsIn}
 use Rattle.coder_theory.specs.declared.Record.{Record}
 use Rattle.coder_theory.specs.declared.Answer.{Answer}
 use Rattle.coder_theory.specs.declared.ElementAnswer.{ElementAnswer}
@@ -24,16 +23,13 @@ use Rattle.coder_theory.specs.declared.TestAnswer.{TestAnswer}
 use Rattle.coder_theory.specs.declared.Corrected.{Corrected}
 use Rattle.coder_theory.proofs.Firsts.{NoneApplies, accepted-none}
 use Rattle.coder_theory.proofs.States.{true-usable}
-use Rattle.words_theory.proofs.Bad.{none-bits}
 use Rattle.coder_theory.proofs.Answers.{element-refusal}
-use Rattle.coder_theory.proofs.Outcomes.{inside-by, right-length}
+use Rattle.coder_theory.proofs.Outcomes.{inside-by, word-by}
 use Rattle.coder_theory.proofs.Corrections.{correct-accepted, nearest-in}
 use Rattle.coder_theory.proofs.Refusals.{tells}
 use Rattle.coder_theory.proofs.Accepted.{syndrome-accepts, codeword-accepts, encode-accepts, correct-accepts, combine-accepts, invert-accepts}
+use Rattle.coder_theory.proofs.Asking.{ask-accepts, ask-accepted, commit-accepted, commit-accepts}
 use Rattle.coder_theory.proofs.Triples.{thirds}
-
-pub word-by : (n : ℕ) (w : List ℕ) → wrongLength n w .applies ≡ false → badByte w .applies ≡ false → Word n w
-word-by n w a b = record { places = right-length n w a; bits = none-bits 0 w (eqb-true (badPlace w) 0 (not-false (eqb (badPlace w) 0) b)) }
 
 -- a word that is read, and one that is read to be written
 read-by : (rec : Record) (w : List ℕ) → NoneApplies (wordReasons rec w) → Usable rec × IsWord rec w
@@ -58,6 +54,44 @@ unfolding placesIn correctAnswer
 correct-where rec w out = (
   (λ e. let a = correct-accepted rec w out e in (a .0, a .1, a .2, has rec w (a .0) (a .1) (a .4), a .3)),
   λ a. ap (λ (x : Corrected). x .refusal) (correct-accepts rec w out (a .0) (a .4) (kept rec w (a .0) (a .1) (a .3)) (a .1) (a .2) .0),
+)
+
+ask-where : (rec : Record) (w : List ℕ) → (askAnswer rec w .refusal ≡ 0) ↔ (Usable rec × IsWord rec w × HasNear (rec .t) (rec .r) (rec .s) w)
+unfolding placesIn
+ask-where rec w = (
+  (λ e. let a = ask-accepted rec w e in (a .0, a .1, has rec w (a .0) (a .1) (a .2))),
+  λ a. ap (λ (x : Answer). x .refusal) (ask-accepts rec w (a .0) (a .1) (kept rec w (a .0) (a .1) (a .2))),
+)
+
+-- ---- the place that asking gives is the only one, 0 or one of the word's, where the word flipped is a codeword
+module _ (rec : Record) (w : List ℕ) (f : Usable rec) (h : IsWord rec w) where
+  within : (p : ℕ) → p ≤ wordPlaces rec → p ≤ lengthOf (moduliIn rec) - rec .s
+  within p l = rw (length-code (rec .t) (rec .r) (f .fit .admitted)) l
+
+  pub asks-only : (p : ℕ) → p ≤ wordPlaces rec → CodewordIn rec (flip p w) → (FallsOut rec w → ⊥) × (p ≡ askAnswer rec w .place)
+  unfolding placesIn correctedPlaceIn correctedOldPlaceIn
+  asks-only p l d =
+      let n = nearest-in rec w f h .place p (within p l) d in
+      (n .0, n .1 ∙ sym (ap (λ (x : Answer). x .place) (ask-accepts rec w f h (n .0))))
+
+  pub asks-flipped : (FallsOut rec w → ⊥) → (askAnswer rec w .place ≤ wordPlaces rec) × CodewordIn rec (flip (askAnswer rec w .place) w)
+  unfolding placesIn correctedPlaceIn correctedOldPlaceIn
+  asks-flipped q =
+      let n = nearest-in rec w f h in
+      rw (ap (λ (x : Answer). x .place) (ask-accepts rec w f h q)) (
+        subst (λ (m : ℕ). shortenedCorrectedPlace (moduliIn rec) (rec .s) w ≤ m - rec .s) (length-code (rec .t) (rec .r) (f .fit .admitted)) (n .within),
+        subst (CodewordIn rec) (n .flipped q) (n .codeword q),
+      )
+
+commit-where : (rec : Record) (p : ℕ) (w : List ℕ) → (commitAnswer rec p w .refusal ≡ 0)
+    ↔ (Usable rec × IsWord rec w × (p ≤ wordPlaces rec) × CodewordIn rec (flip p w) × (rec .words ≢ fullCount))
+unfolding placesIn
+commit-where rec p w = (
+  (λ e.
+      let a = commit-accepted rec p w e in
+      let b = asks-flipped rec w (a .0) (a .1) (a .3) in
+      (a .0, a .1, rw (a .4) (b .0), rw (a .4) (b .1), a .2)),
+  λ a. let o = asks-only rec w (a .0) (a .1) p (a .2) (a .3) in commit-accepts rec p w (a .0) (a .1) (o .0) (o .1) (a .4),
 )
 
 -- "Words at 4,294,967,294 is accepted once more.", and then comes 23
@@ -117,6 +151,8 @@ accepts rec =
         λ f. ap (λ (x : Answer). x .refusal) (encode-accepts rec m out (f .0) (f .1) (f .2) .0),
       );
       correct = correct-where rec;
+      ask = ask-where rec;
+      commit = commit-where rec;
       combine = λ x y out. (
         (λ e.
             let h = accepted-none (combineReasons rec x y (length out)) refl e in (

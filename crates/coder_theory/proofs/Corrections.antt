@@ -5,7 +5,7 @@ use mathlib.Core.Bool.{Bool, true, false, _&&_, true≢false}
 use mathlib.Core.List.{List, [], _∷_, _++_}
 use Prim.Native.Nat.{ℕ, _+_, _-_, _≤_}
 use native.Mathlib.Omega.{arith}
-use borrow.Author.Tests.{eqb-true, le-leb, leb-true, ltb-false, eqb-false, not-false}
+use borrow.Author.Tests.{le-leb, leb-true, ltb-false, eqb-false}
 use lib.Dec.{eqb, leb}
 use lib.ListN.{length, drop}
 use Rattle.group_theory.proofs.Signs.{both}
@@ -19,14 +19,13 @@ use Rattle.shortened_theory.specs.Calls.{fitsWord, shortenedSyndromeFor, faultA
 use Rattle.shortened_theory.specs.Claims.{NearestTo}
 use Rattle.shortened_theory.proofs.Guards.{fits-word, both-allowed}
 use Rattle.coder_theory.specs.State.{Usable, moduliIn, placesIn, correctedIn, correctedPlaceIn, correctedOldPlaceIn, fullCount, isBinaryIn, isPairedIn, counted, FallsOut}
-use Rattle.coder_theory.specs.Reasons.{Reason, firstReason, badPlace, leftOut, full}
+use Rattle.coder_theory.specs.Reasons.{Reason, firstReason, leftOut, full}
 use Rattle.coder_theory.specs.Calls.{answerOf, writeReasons, correctReasons, correctAnswer, correctOutput}
 use Rattle.coder_theory.specs.declared.Record.{Record}
 use Rattle.coder_theory.specs.declared.Answer.{Answer}
 use Rattle.coder_theory.proofs.Firsts.{NoneApplies, first-before, first-past, accepted-none, no-place}
 use Rattle.coder_theory.proofs.States.{true-usable, code-in, filled-in}
-use Rattle.words_theory.proofs.Bad.{none-bits}
-use Rattle.coder_theory.proofs.Outcomes.{if-refused, right-length, fitted}
+use Rattle.coder_theory.proofs.Outcomes.{if-refused, word-by, fitted}
 use Rattle.coder_theory.proofs.Outputs.{kept}
 
 -- what an accepted check of a word and an output knows: the word is one of n − s bits
@@ -35,7 +34,7 @@ pub written-accepted : (rec : Record) (w : List ℕ) (room : ℕ) → firstReaso
 written-accepted rec w room e =
     let h = accepted-none (writeReasons rec (placesIn rec) w room) refl e in (
       true-usable rec (h .1 .0) (h .1 .1 .0),
-      record { places = right-length (placesIn rec) w (h .1 .1 .1 .0); bits = none-bits 0 w (eqb-true (badPlace w) 0 (not-false _ (h .1 .1 .1 .1 .1 .0))) },
+      word-by (placesIn rec) w (h .1 .1 .1 .0) (h .1 .1 .1 .1 .1 .0),
       ltb-false room (placesIn rec) (h .1 .1 .1 .1 .0),
     )
 
@@ -53,7 +52,7 @@ pub correct-accepted : (rec : Record) (w out : List ℕ) → firstReason (correc
 correct-accepted rec w out e =
     let h = accepted-none (correctReasons rec w (length out)) refl e in (
       true-usable rec (h .1 .0) (h .1 .1 .0),
-      record { places = right-length (placesIn rec) w (h .1 .1 .1 .0); bits = none-bits 0 w (eqb-true (badPlace w) 0 (not-false _ (h .1 .1 .1 .1 .1 .0))) },
+      word-by (placesIn rec) w (h .1 .1 .1 .0) (h .1 .1 .1 .1 .1 .0),
       ltb-false (length out) (placesIn rec) (h .1 .1 .1 .1 .0),
       eqb-false (rec .words) fullCount (h .1 .1 .1 .1 .1 .1 .1 .0),
       left-false (rec .s) (correctedOldPlaceIn rec w) (h .1 .1 .1 .1 .1 .1 .0),
@@ -102,7 +101,7 @@ pub counted-by : (rec : Record) (p k : ℕ) → Usable rec → k ≡ shortenedWi
 unfolding counted isBinaryIn isPairedIn
 counted-by rec p k f e x y z a b c = rw (a, b, c, e ∙ plain-width rec p f)
 
-place-of : (rec : Record) (w : List ℕ) (q : ℕ) {p : ℕ} → q ≡ correctedOldPlaceIn rec w → p ≡ q - rec .s → p ≡ correctedPlaceIn rec w
+pub place-of : (rec : Record) (w : List ℕ) (q : ℕ) {p : ℕ} → q ≡ correctedOldPlaceIn rec w → p ≡ q - rec .s → p ≡ correctedPlaceIn rec w
 unfolding correctedPlaceIn correctedOldPlaceIn shortenedCorrectedPlace
 place-of rec w q e d = d ∙ ap (λ (k : ℕ). k - rec .s) e
 

@@ -1,4 +1,5 @@
--- Demand 2's counts over a run of calls: `counts`, and `meant`: what the counted places say of the words. Assumes nothing.
+-- Demand 2's counts over a run of calls: `counts`; `meant`: what the counted places say of the words; `often`: a committed 0 counts each time.
+-- Assumes nothing.
 use mathlib.Core.Path.{_≡_, refl, sym, ap, ap₂, subst, _∙_}
 use mathlib.Core.Logic.{_≢_, _↔_, _⊎_, inl, inr, ⊎-elim}
 use mathlib.Core.Bool.{Bool, true, _&&_, true≢false}
@@ -21,30 +22,62 @@ use Rattle.shortened_theory.specs.Code.{oldPlace, ShortenedCodeword, isShortene
 use Rattle.shortened_theory.specs.Claims.{NearestTo}
 use Rattle.shortened_theory.proofs.Filling.{old-within}
 use Rattle.coder_theory.specs.State.{Usable, fresh, moduliIn, placesIn, correctedPlaceIn, correctedOldPlaceIn, isBinaryIn, isPairedIn, fullCount, counted, FallsOut}
-use Rattle.coder_theory.specs.Calls.{inForce, correctAnswer}
-use Rattle.coder_theory.specs.Runs.{Call, correcting, other, run, outcome, outcomes, howMany, Counting, Meant, AllMeant, Meaning}
+use Rattle.coder_theory.specs.Calls.{inForce, correctAnswer, commitAnswer}
+use Rattle.coder_theory.specs.Runs.{Call, Correction, correcting, committing, correction, other, readBy, answerTo, run, outcome, outcomes, howMany, Counting, Meant, AllMeant, Meaning, times, moreClean, Often}
 use Rattle.coder_theory.specs.declared.Record.{Record}
+use Rattle.coder_theory.specs.declared.Answer.{Answer}
+use Rattle.coder_theory.specs.declared.Corrected.{Corrected}
 use Rattle.coder_theory.proofs.Corrections.{correct-accepted, nearest-in}
 use Rattle.coder_theory.proofs.Refusals.{correct-untouched, opened-fresh, opened-usable}
+use Rattle.coder_theory.proofs.Asking.{ask-accepts, commit-accepted, commit-accepts, commit-untouched, commit-does}
+use Rattle.coder_theory.proofs.Codewords.{word-of}
+use Rattle.coder_theory.proofs.Accepts.{asks-only}
 
 -- ---- one correction: an accepted one counts the place that it tells, a refused one leaves the record
-module _ (rec : Record) (w out : List ℕ) where
+pub record Step (rec : Record) (w : List ℕ) (x : Corrected) : Type 0 where
+  pub leaves : x .refusal ≢ 0 → x .«record» ≡ rec
+  pub counts : x .refusal ≡ 0 → x .«record» ≡ counted rec (x .place)
+  pub ready : x .refusal ≡ 0 → Usable rec × Word (placesIn rec) w × (rec .words ≢ fullCount) × (FallsOut rec w → ⊥)
+  pub place : x .refusal ≡ 0 → x .place ≡ correctedPlaceIn rec w
+
+pub correct-step : (rec : Record) (w out : List ℕ) → Step rec w (correctAnswer rec w out)
+unfolding correctAnswer
+correct-step rec w out =
+    record {
+      leaves = λ h. correct-untouched rec w out h .1;
+      counts = λ e. rw e;
+      ready = λ e. let a = correct-accepted rec w out e in (a .0, a .1, a .3, a .4);
+      place = λ e. rw e;
+    }
+
+pub commit-step : (rec : Record) (p : ℕ) (w : List ℕ) → Step rec w (commitAnswer rec p w)
+commit-step rec p w =
+    record {
+      leaves = λ h. commit-untouched rec p w h .1;
+      counts = λ e. let d = commit-does rec p w e in d .1 ∙ ap (counted rec) (sym (d .0));
+      ready = λ e. let a = commit-accepted rec p w e in (a .0, a .1, a .2, a .3);
+      place = λ e.
+          let a = commit-accepted rec p w e in
+          commit-does rec p w e .0 ∙ a .4 ∙ ap (λ (b : Answer). b .place) (ask-accepts rec w (a .0) (a .1) (a .3));
+    }
+
+step : (rec : Record) (x : Correction) → Step rec (readBy x) (answerTo rec x)
+step rec (correcting w out) = correct-step rec w out
+step rec (committing p w) = commit-step rec p w
+
+module _ (rec : Record) (x : Correction) where
   abbrev next : Record
-  next = correctAnswer rec w out .«record»
+  next = answerTo rec x .«record»
 
-  pub stepped : correctAnswer rec w out .refusal ≡ 0 → next ≡ counted rec (correctAnswer rec w out .place)
-  unfolding correctAnswer
-  stepped e = rw e
-
-  left : {n : ℕ} → correctAnswer rec w out .refusal ≡ suc n → next ≡ rec
-  left {n} e = correct-untouched rec w out (λ z. let c : suc n ≡ 0 = sym e ∙ z in omega arith) .1
+  left : {n : ℕ} → answerTo rec x .refusal ≡ suc n → next ≡ rec
+  left {n} e = step rec x .leaves (λ z. let c : suc n ≡ 0 = sym e ∙ z in omega arith)
 
   -- a field that no count changes
   same-field : (field : Record → ℕ) → ((p : ℕ) → field (counted rec p) ≡ field rec) → field next ≡ field rec
-  same-field field h = go (correctAnswer rec w out .refusal) refl
+  same-field field h = go (answerTo rec x .refusal) refl
     where
-      go : (n : ℕ) → correctAnswer rec w out .refusal ≡ n → field next ≡ field rec
-      go zero e = ap field (stepped e) ∙ h (correctAnswer rec w out .place)
+      go : (n : ℕ) → answerTo rec x .refusal ≡ n → field next ≡ field rec
+      go zero e = ap field (step rec x .counts e) ∙ h (answerTo rec x .place)
       go (suc n) e = ap field (left e)
 
   same-t : next .t ≡ rec .t
@@ -55,29 +88,29 @@ module _ (rec : Record) (w out : List ℕ) where
   unfolding counted
   same-r = same-field (λ (x : Record). x .r) (λ p. refl)
 
-module _ (rec : Record) (w out : List ℕ) where
-  same-s : next rec w out .s ≡ rec .s
+module _ (rec : Record) (x : Correction) where
+  same-s : next rec x .s ≡ rec .s
   unfolding counted
-  same-s = same-field rec w out (λ (x : Record). x .s) (λ p. refl)
+  same-s = same-field rec x (λ (x : Record). x .s) (λ p. refl)
 
 -- ---- a count over a run, for any field that counts the places of a kind
 module _ (t r s : ℕ) (field : Record → ℕ) (kind : ℕ → Bool)
     (adds : (rec : Record) (p : ℕ) → rec .t ≡ t → rec .r ≡ r → rec .s ≡ s → field (counted rec p) ≡ field rec + oneIf (kind p)) where
-  one : (rec : Record) (w out : List ℕ) → rec .t ≡ t → rec .r ≡ r → rec .s ≡ s
-      → field (next rec w out) ≡ field rec + oneIf (eqb (outcome rec w out .refusal) 0 && kind (outcome rec w out .place))
-  one rec w out a b d = go (correctAnswer rec w out .refusal) refl
+  one : (rec : Record) (x : Correction) → rec .t ≡ t → rec .r ≡ r → rec .s ≡ s
+      → field (next rec x) ≡ field rec + oneIf (eqb (outcome rec x .refusal) 0 && kind (outcome rec x .place))
+  one rec x a b d = go (answerTo rec x .refusal) refl
     where
-      go : (n : ℕ) → correctAnswer rec w out .refusal ≡ n
-          → field (next rec w out) ≡ field rec + oneIf (eqb (correctAnswer rec w out .refusal) 0 && kind (correctAnswer rec w out .place))
-      go zero e = rw e (ap field (stepped rec w out e) ∙ adds rec (correctAnswer rec w out .place) a b d)
-      go (suc n) e = rw (e, ne-eqb (suc n) 0 (λ z. omega arith)) (ap field (left rec w out e) ∙ omega arith)
+      go : (n : ℕ) → answerTo rec x .refusal ≡ n
+          → field (next rec x) ≡ field rec + oneIf (eqb (answerTo rec x .refusal) 0 && kind (answerTo rec x .place))
+      go zero e = rw e (ap field (step rec x .counts e) ∙ adds rec (answerTo rec x .place) a b d)
+      go (suc n) e = rw (e, ne-eqb (suc n) 0 (λ z. omega arith)) (ap field (left rec x e) ∙ omega arith)
 
   total : (rec : Record) (xs : List Call) → rec .t ≡ t → rec .r ≡ r → rec .s ≡ s → field (run rec xs) ≡ field rec + howMany kind (outcomes rec xs)
   unfolding run outcomes howMany
   total rec [] a b d = omega arith
-  total rec (correcting w out ∷ xs) a b d =
-      let i = total (next rec w out) xs (same-t rec w out ∙ a) (same-r rec w out ∙ b) (same-s rec w out ∙ d) in
-      let o = one rec w out a b d in
+  total rec (correction x ∷ xs) a b d =
+      let i = total (next rec x) xs (same-t rec x ∙ a) (same-r rec x ∙ b) (same-s rec x ∙ d) in
+      let o = one rec x a b d in
       omega arith
   total rec (other x ∷ xs) a b d = total rec xs a b d
 
@@ -89,40 +122,24 @@ unfolding counted
 one-more rec p = refl
 
 -- ---- the parameters stay, and words never passes the largest count
-unchanged : (field : Record → ℕ) → ((rec : Record) (w out : List ℕ) → field (next rec w out) ≡ field rec)
+unchanged : (field : Record → ℕ) → ((rec : Record) (x : Correction) → field (next rec x) ≡ field rec)
     → (rec : Record) (xs : List Call) → field (run rec xs) ≡ field rec
 unfolding run
 unchanged field h rec [] = refl
-unchanged field h rec (correcting w out ∷ xs) = unchanged field h (next rec w out) xs ∙ h rec w out
+unchanged field h rec (correction x ∷ xs) = unchanged field h (next rec x) xs ∙ h rec x
 unchanged field h rec (other x ∷ xs) = unchanged field h rec xs
-
-module _ (rec : Record) (w out : List ℕ) (e : correctAnswer rec w out .refusal ≡ 0) where
-  ready : Usable rec × Word (placesIn rec) w × (placesIn rec ≤ length out) × (rec .words ≢ fullCount) × (FallsOut rec w → ⊥)
-  unfolding correctAnswer
-  ready = correct-accepted rec w out e
-
-  place-told : correctAnswer rec w out .place ≡ shortenedCorrectedPlace (moduliIn rec) (rec .s) w
-  unfolding correctAnswer correctedPlaceIn
-  place-told = rw e
-
-  nearest : NearestTo (moduliIn rec) (rec .s) w
-  nearest = nearest-in rec w (ready .0) (ready .1)
-
-  kept : LeftOut (rec .s) (correctedOldPlace (moduliIn rec) (rec .s) w) → ⊥
-  unfolding correctedOldPlaceIn
-  kept = ready .4
 
 within : (rec : Record) (xs : List Call) → rec .words ≤ fullCount → run rec xs .words ≤ fullCount
 unfolding run
 within rec [] h = h
-within rec (correcting w out ∷ xs) h = within (next rec w out) xs (go (correctAnswer rec w out .refusal) refl)
+within rec (correction x ∷ xs) h = within (next rec x) xs (go (answerTo rec x .refusal) refl)
   where
-    go : (n : ℕ) → correctAnswer rec w out .refusal ≡ n → next rec w out .words ≤ fullCount
+    go : (n : ℕ) → answerTo rec x .refusal ≡ n → next rec x .words ≤ fullCount
     go zero e =
-        let s = ap (λ (x : Record). x .words) (stepped rec w out e) ∙ one-more rec (correctAnswer rec w out .place) in
-        let n = ready rec w out e .3 in
+        let s = ap (λ (x : Record). x .words) (step rec x .counts e) ∙ one-more rec (answerTo rec x .place) in
+        let n = step rec x .ready e .2 in
         omega arith
-    go (suc n) e = rw (left rec w out e) h
+    go (suc n) e = rw (left rec x e) h
 within rec (other x ∷ xs) h = within rec xs h
 
 -- ---- the record stays usable: an accepted correction counts its place once
@@ -143,30 +160,41 @@ counted-fit rec p f h =
       allowed = f .allowed;
     }
 
-old-in : (rec : Record) (w out : List ℕ) (e : correctAnswer rec w out .refusal ≡ 0)
-    → oldPlace (rec .s) (shortenedCorrectedPlace (moduliIn rec) (rec .s) w) ≤ lengthOf (moduliIn rec)
-old-in rec w out e =
-    let f = ready rec w out e .0 in
-    let n = length-code (rec .t) (rec .r) (f .fit .admitted) in
-    let st = f .allowed .stays in
-    old-within (lengthOf (moduliIn rec)) (rec .s) (shortenedCorrectedPlace (moduliIn rec) (rec .s) w) (omega arith) (nearest rec w out e .within)
+-- ---- a call that counts and is accepted
+module _ (rec : Record) (w : List ℕ) (x : Corrected) (c : Step rec w x) (e : x .refusal ≡ 0) where
+  nearest : NearestTo (moduliIn rec) (rec .s) w
+  nearest = let a = c .ready e in nearest-in rec w (a .0) (a .1)
 
--- the place that it tells is of one kind
-pub one-of : (rec : Record) (w out : List ℕ) → correctAnswer rec w out .refusal ≡ 0
-    → let p = correctAnswer rec w out .place in
-    oneIf (eqb p 0) + oneIf (isShortenedBinary (moduliIn rec) (rec .s) p) + oneIf (isShortenedPaired (moduliIn rec) (rec .s) p) ≡ 1
-one-of rec w out e = one-kind (moduliIn rec) (rec .s) (correctAnswer rec w out .place) (rw (place-told rec w out e) (old-in rec w out e))
+  kept : LeftOut (rec .s) (correctedOldPlace (moduliIn rec) (rec .s) w) → ⊥
+  unfolding correctedOldPlaceIn
+  kept = c .ready e .3
+
+  at : x .place ≡ shortenedCorrectedPlace (moduliIn rec) (rec .s) w
+  unfolding correctedPlaceIn
+  at = c .place e
+
+  old-in : oldPlace (rec .s) (x .place) ≤ lengthOf (moduliIn rec)
+  old-in =
+      let f = c .ready e .0 in
+      let n = length-code (rec .t) (rec .r) (f .fit .admitted) in
+      let st = f .allowed .stays in
+      rw at (old-within (lengthOf (moduliIn rec)) (rec .s) (shortenedCorrectedPlace (moduliIn rec) (rec .s) w) (omega arith) (nearest .within))
+
+  -- the place that it tells is of one kind
+  pub one-of : oneIf (eqb (x .place) 0) + oneIf (isShortenedBinary (moduliIn rec) (rec .s) (x .place)) + oneIf (isShortenedPaired (moduliIn rec) (rec .s) (x .place)) ≡ 1
+  one-of = one-kind (moduliIn rec) (rec .s) (x .place) old-in
+
+  still-usable : Usable (x .«record»)
+  still-usable = rw (c .counts e) (counted-fit rec (x .place) (c .ready e .0) old-in)
 
 stays-fit : (rec : Record) (xs : List Call) → Usable rec → Usable (run rec xs)
 unfolding run
 stays-fit rec [] f = f
-stays-fit rec (correcting w out ∷ xs) f = stays-fit (next rec w out) xs (go (correctAnswer rec w out .refusal) refl)
+stays-fit rec (correction x ∷ xs) f = stays-fit (next rec x) xs (go (answerTo rec x .refusal) refl)
   where
-    go : (n : ℕ) → correctAnswer rec w out .refusal ≡ n → Usable (next rec w out)
-    go zero e =
-        rw (stepped rec w out e)
-        (counted-fit rec (correctAnswer rec w out .place) f (rw (place-told rec w out e) (old-in rec w out e)))
-    go (suc n) e = rw (left rec w out e) f
+    go : (n : ℕ) → answerTo rec x .refusal ≡ n → Usable (next rec x)
+    go zero e = still-usable rec (readBy x) (answerTo rec x) (step rec x) e
+    go (suc n) e = rw (left rec x e) f
 stays-fit rec (other x ∷ xs) f = stays-fit rec xs f
 
 -- ---- the theorem
@@ -190,19 +218,13 @@ counts t r s e xs =
     })
 
 -- ---- what the places say of the words
-module _ (rec : Record) (w out : List ℕ) (e : correctAnswer rec w out .refusal ≡ 0) where
+module _ (rec : Record) (w : List ℕ) (x : Corrected) (c : Step rec w x) (e : x .refusal ≡ 0) where
   near : NearestTo (moduliIn rec) (rec .s) w
-  near = nearest rec w out e
+  near = nearest rec w x c e
 
-  abbrev p : ℕ
-  p = correctAnswer rec w out .place
-
-  at : p ≡ shortenedCorrectedPlace (moduliIn rec) (rec .s) w
-  at = place-told rec w out e
-
-  flipped : ShortenedCodeword (moduliIn rec) (rec .s) (flip p w)
+  flipped : ShortenedCodeword (moduliIn rec) (rec .s) (flip (x .place) w)
   flipped =
-      subst (ShortenedCodeword (moduliIn rec) (rec .s)) (near .flipped (kept rec w out e) ∙ ap (λ (q : ℕ). flip q w) (sym at)) (near .codeword (kept rec w out e))
+      subst (ShortenedCodeword (moduliIn rec) (rec .s)) (near .flipped (kept rec w x c e) ∙ ap (λ (q : ℕ). flip q w) (sym (at rec w x c e))) (near .codeword (kept rec w x c e))
 
   kinds : (q : ℕ) → oldPlace (rec .s) q ≤ lengthOf (moduliIn rec)
       → (q ≡ 0) ⊎ (isShortenedBinary (moduliIn rec) (rec .s) q ≡ true) ⊎ (isShortenedPaired (moduliIn rec) (rec .s) q ≡ true)
@@ -219,36 +241,60 @@ module _ (rec : Record) (w out : List ℕ) (e : correctAnswer rec w out .refusal
       → (isShortenedBinary (moduliIn rec) (rec .s) q ≡ true)
       ↔ (((1 ≤ q) × (q + rec .s ≤ placesOf (rec .r) - binaryOf (rec .t) (rec .r))) ⊎ ((messageOf (rec .t) < q + rec .s) × (q + rec .s ≤ messageOf (rec .t) + binaryOf (rec .t) (rec .r))))
   parts zero h =
-      let st = ready rec w out e .0 .allowed .stays in
+      let st = c .ready e .0 .allowed .stays in
       ((λ z. absurd (true≢false (sym z))), ⊎-elim (λ k. absurd (omega (arith, k .0))) (λ k. absurd (omega (arith, k .0))))
   parts (suc i) h =
-      let ok = ready rec w out e .0 .fit .admitted in
+      let ok = c .ready e .0 .fit .admitted in
       let n = length-code (rec .t) (rec .r) ok in
       let b = binary-parts (rec .t) (rec .r) ok (suc i + rec .s) (omega arith) (omega arith) in
       ((λ z. ⊎-elim (λ k. inl (omega arith, k)) inr (b .0 z)), λ k. b .1 (⊎-elim (λ k. inl (k .1)) inr k))
 
-  means : Meant (rec .t) (rec .r) (rec .s) (outcome rec w out)
+  means : Meant (rec .t) (rec .r) (rec .s) (record { word = w; refusal = x .refusal; place = x .place })
   unfolding placesIn
   means =
       record {
-        isWord = ready rec w out e .1;
+        isWord = c .ready e .1;
         clean = (
           (λ z. subst (λ (q : ℕ). ShortenedCodeword (moduliIn rec) (rec .s) (flip q w)) z flipped),
-          (λ c. at ∙ sym (near .place 0 (omega arith) c .1)),
+          (λ d. at rec w x c e ∙ sym (near .place 0 (omega arith) d .1)),
         );
         flipped = flipped;
-        kinds = kinds p (rw at (old-in rec w out e));
-        binary = parts p (rw at (old-in rec w out e));
+        kinds = kinds (x .place) (old-in rec w x c e);
+        binary = parts (x .place) (old-in rec w x c e);
       }
 
 all-meant : (t r s : ℕ) (rec : Record) (xs : List Call) → rec .t ≡ t → rec .r ≡ r → rec .s ≡ s → AllMeant t r s (outcomes rec xs)
 unfolding outcomes
 all-meant t r s rec [] a b d = tt
-all-meant t r s rec (correcting w out ∷ xs) a b d = (
-  (λ e. subst (λ (k : ℕ). Meant k r s (outcome rec w out)) a (subst (λ (k : ℕ). Meant (rec .t) k s (outcome rec w out)) b (subst (λ (k : ℕ). Meant (rec .t) (rec .r) k (outcome rec w out)) d (means rec w out e)))),
-  all-meant t r s (next rec w out) xs (same-t rec w out ∙ a) (same-r rec w out ∙ b) (same-s rec w out ∙ d),
+all-meant t r s rec (correction x ∷ xs) a b d = (
+  (λ e.
+      let m = means rec (readBy x) (answerTo rec x) (step rec x) e in
+      subst (λ (k : ℕ). Meant k r s (outcome rec x)) a (subst (λ (k : ℕ). Meant (rec .t) k s (outcome rec x)) b (subst (λ (k : ℕ). Meant (rec .t) (rec .r) k (outcome rec x)) d m))),
+  all-meant t r s (next rec x) xs (same-t rec x ∙ a) (same-r rec x ∙ b) (same-s rec x ∙ d),
 )
 all-meant t r s rec (other x ∷ xs) a b d = all-meant t r s rec xs a b d
 
 pub meant : Meaning
 meant t r s e xs = rw (opened-fresh t r s e) (all-meant t (inForce t r) s (fresh t (inForce t r) s) xs refl refl refl)
+
+-- ---- a committed 0, again and again: asking gives 0 for a codeword
+-- the same with other counts
+recounted : (rec : Record) (n m a b c d : ℕ) → n ≡ m → a ≡ b → c ≡ rec .«corrected_binary» → d ≡ rec .«corrected_pairs»
+    → _≡_ {A = Record}
+    (record { t = rec .t; r = rec .r; s = rec .s; words = n; clean = a; «corrected_binary» = c; «corrected_pairs» = d })
+    (record { t = rec .t; r = rec .r; s = rec .s; words = m; clean = b; «corrected_binary» = rec .«corrected_binary»; «corrected_pairs» = rec .«corrected_pairs» })
+recounted rec n m a b c d e f g h = rw (e, f, g, h)
+
+clean-next : (rec : Record) (k : ℕ) → moreClean k (counted rec 0) ≡ moreClean (suc k) rec
+unfolding counted isBinaryIn isPairedIn
+clean-next rec k = recounted rec _ _ _ _ _ _ (omega arith) (omega arith) (omega arith) (omega arith)
+
+pub often : Often
+unfolding run counted placesIn
+often rec w f d zero h = sym (recounted rec (rec .words + 0) (rec .words) (rec .clean + 0) (rec .clean) _ _ (omega arith) (omega arith) refl refl)
+often rec w f d (suc k) h =
+    let h′ = word-of rec f w d in
+    let a = asks-only rec w f h′ 0 (omega arith) d in
+    let c = commit-accepts rec 0 w f h′ (a .0) (a .1) (λ z. absurd (omega arith)) in
+    let i = often (counted rec 0) w (counted-fit rec 0 f (omega arith)) d k (omega arith) in
+    ap (λ (x : Record). run x (times k (correction (committing 0 w)))) (commit-does rec 0 w c .1) ∙ i ∙ clean-next rec k

@@ -20,7 +20,8 @@ use Rattle.coder_theory.proofs.States.{state-clear, true-usable}
 use Rattle.coder_theory.proofs.Answers.{opened-yes, element-told, unusable-length}
 use Rattle.coder_theory.proofs.Outcomes.{says-yes, shown-no, word-accepted}
 use Rattle.coder_theory.proofs.Refusals.{one-applies, allowed-applies, encode-untouched, correct-untouched, combine-untouched, invert-untouched, in-force, opened-fresh, opened-admits, opens-not}
-use Rattle.coder_theory.proofs.Told.{syndrome-tells, codeword-tells, encode-tells, correct-tells, combine-tells, invert-tells, third-tells, syndrome-none, codeword-no}
+use Rattle.coder_theory.proofs.Told.{syndrome-tells, codeword-tells, encode-tells, correct-tells, ask-tells, commit-tells, combine-tells, invert-tells, third-tells, syndrome-none, codeword-no}
+use Rattle.coder_theory.proofs.Asking.{commit-untouched}
 use Rattle.coder_theory.proofs.Codewords.{says-codeword, shows-codeword}
 use Rattle.coder_theory.proofs.Accepts.{accepts, once-more}
 use Rattle.coder_theory.proofs.Refused.{refused}
@@ -49,6 +50,8 @@ gives rec =
       codeword = λ w. (codeword-tells rec w, codeword-no rec w);
       encode = λ m out. (encode-tells rec m out, encode-untouched rec m out);
       correct = λ w out h. let k = correct-untouched rec w out h in (correct-tells rec w out h, k .1, k .0);
+      ask = ask-tells rec;
+      commit = λ p w h. let k = commit-untouched rec p w h in (commit-tells rec p w h, k .1, k .0);
       combine = λ x y out. (combine-tells rec x y out, combine-untouched rec x y out);
       invert = λ w out. (invert-tells rec w out, invert-untouched rec w out);
       third = third-tells rec;

@@ -16,7 +16,7 @@ use Rattle.words_theory.proofs.Thirds.{zero-word}
 use Rattle.words_theory.proofs.Theorem.{length-code}
 use Rattle.shortened_theory.specs.Code.{fill, oldPlace, shortenedSyndrome}
 use Rattle.shortened_theory.proofs.Filling.{fill-word, fill-zero, flip-fill}
-use Rattle.coder_theory.specs.State.{Usable, FallsOut, counted, isBinaryIn, isPairedIn, correctedIn, correctedOldPlaceIn, moduliIn, placesIn, messageIn, elementIn, syndromeIn, numberIn}
+use Rattle.coder_theory.specs.State.{Usable, FallsOut, correctedIn, correctedOldPlaceIn, moduliIn, placesIn, messageIn, elementIn, syndromeIn, numberIn}
 use Rattle.coder_theory.specs.Calls.{elementAnswer, syndromeAnswer, correctAnswer, correctOutput, combineOutput}
 use Rattle.coder_theory.specs.Demand1.{CodewordIn, wordPlaces, IsWord, HasRoom}
 use Rattle.coder_theory.specs.Demand2.{firstBytes, TellsSyndrome, CorrectsIn, Demand2}
@@ -28,7 +28,8 @@ use Rattle.coder_theory.proofs.Accepted.{syndrome-accepts, reading-acce
 use Rattle.coder_theory.proofs.Corrections.{nearest-in}
 use Rattle.coder_theory.proofs.Accepts.{accepts, kept}
 use Rattle.coder_theory.proofs.Codewords.{says-codeword, word-of, zero-of}
-use Rattle.coder_theory.proofs.Counting.{stepped, one-of}
+use Rattle.coder_theory.proofs.Counting.{correct-step}
+use Rattle.coder_theory.proofs.Commits.{adds-one, asks, commits}
 use Rattle.coder_theory.proofs.Layouts.{tells-layout, tells-once}
 use Rattle.coder_theory.proofs.Messages.{encodes}
 use Rattle.coder_theory.proofs.Triples.{combined-front, combines, inverts, thirds}
@@ -97,11 +98,11 @@ module _ (rec : Record) (f : Usable rec) where
   syndrome = record { ones = λ p l. ones p (l .0) (l .1); sums = sums; codewords = codewords }
 
   -- ---- the bytes behind a corrected word
-  corrected-word : (w : List ℕ) → IsWord rec w → (FallsOut rec w → ⊥) → length (correctedIn rec w) ≡ wordPlaces rec
+  pub corrected-word : (w : List ℕ) → IsWord rec w → (FallsOut rec w → ⊥) → length (correctedIn rec w) ≡ wordPlaces rec
   unfolding placesIn correctedIn correctedOldPlaceIn
   corrected-word w h q = word-of rec f (correctedIn rec w) (nearest-in rec w f h .codeword q) .places
 
-  behind : (w out : List ℕ) → drop (wordPlaces rec) (correctOutput rec w out) ≡ drop (wordPlaces rec) out
+  pub behind : (w out : List ℕ) → drop (wordPlaces rec) (correctOutput rec w out) ≡ drop (wordPlaces rec) out
   unfolding placesIn
   behind w out = go (correctAnswer rec w out .refusal) refl
     where
@@ -114,8 +115,7 @@ module _ (rec : Record) (f : Usable rec) where
       go (suc n) e = ap (drop (wordPlaces rec)) (correct-untouched rec w out (λ z. let c : suc n ≡ 0 = sym e ∙ z in omega arith) .0)
 
   corrects : (w out : List ℕ) → CorrectsIn rec w out
-  unfolding counted isBinaryIn isPairedIn
-  corrects w out = record { further = behind w out; adds = stepped rec w out; one = one-of rec w out }
+  corrects w out = record { further = behind w out; counts = adds-one rec w (correctAnswer rec w out) (correct-step rec w out) }
 
 pub demand2 : Demand2
 unfolding placesIn messageIn
@@ -128,6 +128,8 @@ demand2 rec f =
       reads = λ w c. reading-accepts rec w f (word-of rec f w c) (zero-of rec f w c) .0;
       encodes = λ m out h l. encodes rec m out f h l;
       corrects = corrects rec f;
+      asks = asks rec f;
+      commits = commits rec f;
       combines = λ x y out h k l. combines rec x y out f h k l;
       inverts = λ w out h l. inverts rec w out f h l;
       thirds = λ i j a b n. thirds rec i j f (a .0) (a .1) (b .0) (b .1) n;

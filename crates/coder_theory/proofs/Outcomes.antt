@@ -15,6 +15,8 @@ use Rattle.layout_theory.specs.Parameters.{placesOf}
 use Rattle.layout_theory.specs.Calls.{shapeFor}
 use Rattle.layout_theory.specs.declared.Shape.{Shape}
 use Rattle.layout_theory.proofs.Parameters.{known-for, moduli-known}
+use Rattle.words_theory.specs.Words.{Word}
+use Rattle.words_theory.proofs.Bad.{none-bits}
 use Rattle.shortened_theory.specs.Code.{isLeftOut, shortenedSyndrome, shortenedThird}
 use Rattle.shortened_theory.specs.Calls.{Fits, shortenedSyndromeFor, isShortenedPlace, shortenedThirdFor}
 use Rattle.shortened_theory.proofs.Guards.{both-allowed, fits-word}
@@ -105,6 +107,9 @@ module _ (early : List Reason) (quiet : Placeless early) (some : numbered early 
 -- ---- what an accepted call on a word knows, and what the functions on plain words then answer
 pub right-length : (n : ℕ) (w : List ℕ) → wrongLength n w .applies ≡ false → length w ≡ n
 right-length n w h = eqb-true (length w) n (not-false (eqb (length w) n) h)
+
+pub word-by : (n : ℕ) (w : List ℕ) → wrongLength n w .applies ≡ false → badByte w .applies ≡ false → Word n w
+word-by n w a b = record { places = right-length n w a; bits = none-bits 0 w (eqb-true (badPlace w) 0 (not-false (eqb (badPlace w) 0) b)) }
 
 pub word-accepted : (rec : Record) (w : List ℕ) → firstReason (wordReasons rec w) .number ≡ 0 → Usable rec × (length w ≡ placesIn rec)
 word-accepted rec w e =

@@ -17,7 +17,7 @@ use Rattle.shortened_theory.specs.Allowed.{Allowed, allows}
 use Rattle.shortened_theory.specs.Code.{LeftOut, isLeftOut}
 use Rattle.shortened_theory.proofs.Between.{allows-allowed, allowed-allows, zero-allowed}
 use Rattle.coder_theory.specs.State.{Fit, Usable, fresh, isUnfit, placesIn, elementIn, fullCount}
-use Rattle.coder_theory.specs.Reasons.{notAdmitted, notAllowed, leftOut, wrongLength, shortOutput, badPlace, badByte, outside, equalPlaces, closed, unfit, full}
+use Rattle.coder_theory.specs.Reasons.{notAdmitted, notAllowed, leftOut, wrongLength, shortOutput, badPlace, badByte, outside, equalPlaces, notAsked, closed, unfit, full}
 use Rattle.coder_theory.specs.Calls.{inForce, opened, elementAnswer}
 use Rattle.coder_theory.specs.Calls.{correctAnswer, correctOutput, combineAnswer, combineOutput}
 use Rattle.coder_theory.specs.Calls.{encodeAnswer, encodeOutput, invertAnswer, invertOutput}
@@ -132,6 +132,10 @@ byte-applies w = (
 -- 6: the places are equal
 pub equal-applies : (i j : ℕ) → (equalPlaces i j .applies ≡ true) ↔ (i ≡ j)
 equal-applies i j = ((λ e. eqb-true i j e), (λ e. eq-eqb i j e))
+
+-- 24: the place is another
+pub asked-applies : (p q : ℕ) → (notAsked p q .applies ≡ true) ↔ (p ≢ q)
+asked-applies p q = not-test (eqb p q) (eqb-true p q, eq-eqb p q)
 
 -- ---- none of this is empty: every admitted pair opens with every allowed s, and the record is usable
 pub in-force : (t r : ℕ) → r ≢ 0 → inForce t r ≡ r

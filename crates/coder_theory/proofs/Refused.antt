@@ -9,20 +9,20 @@ use lib.ListN.{length}
 use Rattle.group_theory.proofs.Signs.{not-true}
 use Rattle.shortened_theory.specs.Allowed.{Allowed}
 use Rattle.coder_theory.specs.State.{Usable, placesIn, messageIn, correctedOldPlaceIn, thirdOldPlaceIn, ThirdFallsOut}
-use Rattle.coder_theory.specs.Reasons.{Reason, closed, unfit, notAllowed, wrongLength, shortOutput, badByte, outside, equalPlaces, leftOut, full}
+use Rattle.coder_theory.specs.Reasons.{Reason, closed, unfit, notAllowed, wrongLength, shortOutput, badByte, outside, equalPlaces, leftOut, notAsked, full}
 use Rattle.coder_theory.specs.Calls.{stateReasons, layoutReasons, wordReasons, syndromeAnswer, codewordAnswer, writeReasons, encodeReasons, encodeAnswer}
+use Rattle.coder_theory.specs.Calls.{askReasons, askAnswer, commitReasons, commitAnswer}
 use Rattle.coder_theory.specs.Calls.{correctReasons, correctAnswer, combineReasons, combineAnswer, invertReasons, invertAnswer, thirdReasons, thirdAnswer}
-use Rattle.coder_theory.specs.Demand3Shortened.{HasNear}
-use Rattle.coder_theory.specs.Demand1.{ThreeIn, wordPlaces, Unfit, Short, NotBits, Outside, stateRows, writeRows, IsPlace, IsWord, RefusedIn}
+use Rattle.coder_theory.specs.Demand1.{ThreeIn, wordPlaces, Unfit, Short, NotBits, Outside, NoneNear, stateRows, readRows, writeRows, IsPlace, IsWord, RefusedIn}
 use Rattle.coder_theory.specs.declared.Record.{Record}
 use Rattle.coder_theory.specs.declared.Answer.{Answer}
 use Rattle.coder_theory.proofs.Rows.{Rowed, done, row, two, by-first}
 use Rattle.coder_theory.proofs.States.{true-usable}
 use Rattle.coder_theory.proofs.Answers.{element-refusal}
-use Rattle.coder_theory.proofs.Outcomes.{inside-by}
-use Rattle.coder_theory.proofs.Refusals.{by-test, closed-applies, unfit-applies, allowed-applies, left-applies, outside-applies, length-applies, output-applies, full-applies, byte-applies, equal-applies}
+use Rattle.coder_theory.proofs.Outcomes.{inside-by, word-by}
+use Rattle.coder_theory.proofs.Refusals.{by-test, closed-applies, unfit-applies, allowed-applies, left-applies, outside-applies, length-applies, output-applies, full-applies, byte-applies, equal-applies, asked-applies}
 use Rattle.coder_theory.proofs.Corrections.{left-false}
-use Rattle.coder_theory.proofs.Accepts.{word-by, has, kept, three}
+use Rattle.coder_theory.proofs.Accepts.{has, kept, three}
 use Rattle.coder_theory.proofs.Accepted.{third-accepts, third-left}
 
 -- a reason that does not apply
@@ -45,10 +45,14 @@ module _ (rec : Record) where
       true-usable rec (off (unfit rec) (unfit-applies rec) (p .0 .1))
       (off (notAllowed (rec .t) (rec .r) (rec .s)) (allowed-applies (rec .t) (rec .r) (rec .s)) (p .1))
 
-  -- ---- a word that is read, and one that is read to be written
-  read-rows : (w : List ℕ) → Rowed (Unit {0}) (wordReasons rec w) (stateRows rec ++ ((2, length w ≢ wordPlaces rec) ∷ (4, NotBits w) ∷ []))
+  -- ---- a word that is read, and one that is read to be written; with further reasons
+  abbrev Read : List ℕ → Type 0
+  Read w = (Past rec × (length w ≢ wordPlaces rec → ⊥)) × (NotBits w → ⊥)
+
+  read-rows : (w : List ℕ) {xs : List Reason} {rows : List (ℕ × Type 0)} → Rowed (Read w) xs rows
+      → Rowed (Unit {0}) (wordReasons rec w ++ xs) (readRows rec w ++ rows)
   unfolding placesIn
-  read-rows w = state (row (wrongLength (placesIn rec) w) (λ z. length-applies (placesIn rec) w) (row (badByte w) (λ z. byte-applies w) done))
+  read-rows w later = state (row (wrongLength (placesIn rec) w) (λ z. length-applies (placesIn rec) w) (row (badByte w) (λ z. byte-applies w) later))
 
   abbrev Written : ℕ → List ℕ → List ℕ → Type 0
   Written n w out = ((Past rec × (length w ≢ n → ⊥)) × (Short rec out → ⊥)) × (NotBits w → ⊥)
@@ -62,15 +66,15 @@ module _ (rec : Record) where
       (row (shortOutput (placesIn rec) (length out)) (λ z. output-applies (placesIn rec) (length out)) (row (badByte w) (λ z. byte-applies w) later)))
 
   -- ---- correction: the place is left out exactly where no codeword is within one place
-  module _ (w out : List ℕ) (p : Written (wordPlaces rec) w out) where
+  module _ (w : List ℕ) (p : Read w) where
     is-word : IsWord rec w
-    is-word = word-by (wordPlaces rec) w (off (wrongLength (wordPlaces rec) w) (length-applies (wordPlaces rec) w) (p .0 .0 .1)) (off (badByte w) (byte-applies w) (p .1))
+    is-word = word-by (wordPlaces rec) w (off (wrongLength (wordPlaces rec) w) (length-applies (wordPlaces rec) w) (p .0 .1)) (off (badByte w) (byte-applies w) (p .1))
 
-    left : (leftOut (rec .s) (correctedOldPlaceIn rec w) .applies ≡ true) ↔ (HasNear (rec .t) (rec .r) (rec .s) w → ⊥)
+    left : (leftOut (rec .s) (correctedOldPlaceIn rec w) .applies ≡ true) ↔ NoneNear rec w
     left =
         by-test (leftOut (rec .s) (correctedOldPlaceIn rec w) .applies)
-        (λ e c. kept rec w (usable (p .0 .0 .0)) is-word c (left-applies (rec .s) (correctedOldPlaceIn rec w) .0 e))
-        (λ y never. never (has rec w (usable (p .0 .0 .0)) is-word (left-false (rec .s) (correctedOldPlaceIn rec w) y)))
+        (λ e c. kept rec w (usable (p .0 .0)) is-word c (left-applies (rec .s) (correctedOldPlaceIn rec w) .0 e))
+        (λ y never. never (has rec w (usable (p .0 .0)) is-word (left-false (rec .s) (correctedOldPlaceIn rec w) y)))
 
   -- ---- the third place
   module _ (i j : ℕ) (p : (Past rec × ((Outside rec i) ⊎ (Outside rec j) → ⊥)) × (i ≢ j)) where
@@ -106,17 +110,23 @@ module _ (rec : Record) where
 
 -- ---- the calls
 pub refused : (rec : Record) → RefusedIn rec
-unfolding placesIn messageIn syndromeAnswer codewordAnswer encodeAnswer correctAnswer combineAnswer invertAnswer thirdAnswer
+unfolding placesIn messageIn syndromeAnswer codewordAnswer encodeAnswer correctAnswer askAnswer commitAnswer combineAnswer invertAnswer thirdAnswer
 refused rec =
     record {
       layout = λ p. by-first _ (layoutReasons rec p) _ refl refl (element-refusal rec p) (state rec (row (outside rec p) (λ z. outside-applies rec p) done));
-      syndrome = λ w. by-first _ (wordReasons rec w) _ refl refl refl (read-rows rec w);
-      codeword = λ w. by-first _ (wordReasons rec w) _ refl refl refl (read-rows rec w);
+      syndrome = λ w. by-first _ (wordReasons rec w) _ refl refl refl (read-rows rec w done);
+      codeword = λ w. by-first _ (wordReasons rec w) _ refl refl refl (read-rows rec w done);
       encode = λ m out. by-first _ (encodeReasons rec m (length out)) _ refl refl refl (write-rows rec (messageIn rec) m out done);
       correct = λ w out.
           by-first _ (correctReasons rec w (length out)) _ refl refl refl
           (write-rows rec (wordPlaces rec) w out
-          (row (leftOut (rec .s) (correctedOldPlaceIn rec w)) (left rec w out) (row (full rec) (λ z. full-applies rec) done)));
+          (row (leftOut (rec .s) (correctedOldPlaceIn rec w)) (λ p. left rec w ((p .0 .0 .0, p .0 .0 .1), p .1)) (row (full rec) (λ z. full-applies rec) done)));
+      ask = λ w. by-first _ (askReasons rec w) _ refl refl refl (read-rows rec w (row (leftOut (rec .s) (correctedOldPlaceIn rec w)) (left rec w) done));
+      commit = λ p w.
+          by-first _ (commitReasons rec p w) _ refl refl refl
+          (read-rows rec w
+          (row (leftOut (rec .s) (correctedOldPlaceIn rec w)) (left rec w)
+          (row (notAsked p (askAnswer rec w .place)) (λ z. asked-applies p (askAnswer rec w .place)) (row (full rec) (λ z. full-applies rec) done))));
       combine = λ x y out.
           by-first _ (combineReasons rec x y (length out)) _ refl refl refl
           (state rec

@@ -15,15 +15,15 @@ use Rattle.words_theory.specs.Syndrome.{lengthOf}
 use Rattle.words_theory.specs.Coding as coding
 use Rattle.words_theory.proofs.Theorem.{length-code, length-message-code}
 use Rattle.shortened_theory.specs.Allowed.{Allowed}
-use Rattle.shortened_theory.specs.Code.{fill, oldPlace, LeftOut, isLeftOut, correctedOldPlace, thirdOldPlace, shortenedThird, shortenedElementAt, shortenedSyndrome, isShortenedCodeword}
+use Rattle.shortened_theory.specs.Code.{fill, oldPlace, LeftOut, isLeftOut, correctedOldPlace, shortenedCorrectedPlace, thirdOldPlace, shortenedThird, shortenedElementAt, shortenedSyndrome, isShortenedCodeword}
 use Rattle.shortened_theory.specs.Claims.{ShortenedOf}
 use Rattle.shortened_theory.proofs.Filling.{old-sum, old-new, word-fill, fill-word}
 use Rattle.shortened_theory.proofs.Encodings.{fill-encode}
 use Rattle.shortened_theory.proofs.Between.{zero-allowed}
 use Rattle.shortened_theory.proofs.Theorem.{shortened-code}
 use Rattle.shortened_theory.proofs.Whole.{new-zero, none-left, element-zero, place-zero, third-zero, encode-zero, combine-zero, inverse-zero}
-use Rattle.coder_theory.specs.State.{Usable, RecordOf, moduliIn, placesIn, messageIn, elementIn, syndromeIn, numberIn, isCodewordIn, correctedOldPlaceIn, thirdIn, thirdOldPlaceIn, fullCount}
-use Rattle.coder_theory.specs.Calls.{wordLength, messageLength, elementAnswer, syndromeAnswer, codewordAnswer, encodeOutput, correctAnswer, combineOutput, invertOutput, thirdAnswer}
+use Rattle.coder_theory.specs.State.{Usable, RecordOf, moduliIn, placesIn, messageIn, elementIn, syndromeIn, numberIn, isCodewordIn, correctedPlaceIn, correctedOldPlaceIn, thirdIn, thirdOldPlaceIn, fullCount}
+use Rattle.coder_theory.specs.Calls.{wordLength, messageLength, elementAnswer, syndromeAnswer, codewordAnswer, encodeOutput, correctAnswer, askAnswer, combineOutput, invertOutput, thirdAnswer}
 use Rattle.coder_theory.specs.Demand1.{IsPlace}
 use Rattle.coder_theory.specs.Demand2.{Falls, Shortens, Shortening}
 use Rattle.coder_theory.specs.Demand3.{OwnRecord}
@@ -36,6 +36,7 @@ use Rattle.coder_theory.proofs.Answers.{usable-length}
 use Rattle.coder_theory.proofs.Refusals.{tells}
 use Rattle.coder_theory.proofs.Corrections.{left-true, left-false, nearest-in}
 use Rattle.coder_theory.proofs.Accepted.{syndrome-accepts, codeword-accepts, third-accepts, third-left}
+use Rattle.coder_theory.proofs.Asking.{ask-accepts, ask-left}
 use Rattle.coder_theory.proofs.Accepts.{accepts, has}
 use Rattle.coder_theory.proofs.Refused.{refused}
 use Rattle.coder_theory.proofs.Does.{encode-does, combine-does, invert-does, correct-does, left-does}
@@ -221,6 +222,28 @@ module _ (rec whole : Record) (f : Usable rec) (c : RecordOf (rec .t) (rec .r) 0
           let u = accepts rec .correct w out .0 z .4 in
           ap (oldPlace (rec .s)) (correct-does (f .allowed) (own out l) w u q h (by-t (fill-word (lengthOf ms) (rec .s) (m .codeword q .isWord))) .2) ∙ m .renumbered q)
 
+  -- ---- asking likewise, which needs no room and no count
+  whole-asked : (w : List ℕ) → Word k w → askAnswer whole (fill (rec .s) w) .place ≡ old w
+  unfolding old correctedOldPlace correctedPlaceIn
+  whole-asked w h =
+      ap (λ (x : Answer). x .place) (ask-accepts whole (fill (rec .s) w) u (filled h) (λ z. none-left _ (subst (λ (s : ℕ). LeftOut s (correctedOldPlaceIn whole (fill (rec .s) w))) (c .isS) z)))
+      ∙ at-zero (λ (m : List Modulus) (s : ℕ). shortenedCorrectedPlace m s (fill (rec .s) w))
+      ∙ place-zero ms (fill (rec .s) w)
+
+  asks : (w : List ℕ) → Word k w → Falls (rec .s) (askAnswer rec w .refusal) (askAnswer rec w .place) (askAnswer whole (fill (rec .s) w) .place)
+  unfolding old placesIn correctedOldPlaceIn correctedPlaceIn
+  asks w h = subst (Falls (rec .s) (askAnswer rec w .refusal) (askAnswer rec w .place)) (sym (whole-asked w h)) (go (isLeftOut (rec .s) (old w)) refl)
+    where
+      go : (b : Bool) → isLeftOut (rec .s) (old w) ≡ b → Falls (rec .s) (askAnswer rec w .refusal) (askAnswer rec w .place) (old w)
+      go true y =
+          let q = left-true (rec .s) (old w) y in
+          falls-out (rec .s) _ _ _ q (ap (λ (x : Answer). x .refusal) (ask-left rec w f h q))
+      go false y =
+          let q = left-false (rec .s) (old w) y in
+          let e = ask-accepts rec w f h q in
+          stays-in (rec .s) _ _ _ q (λ z. zero-eleven (sym (ap (λ (x : Answer). x .refusal) e) ∙ z))
+          (λ z. ap (λ (x : Answer). oldPlace (rec .s) (x .place)) e ∙ nearest-in rec w f h .renumbered q)
+
   -- ---- the third place likewise
   module _ (i j : ℕ) (a : IsPlace rec i) (b : IsPlace rec j) (d : i ≢ j) where
     abbrev third-old : ℕ
@@ -272,6 +295,7 @@ module _ (rec whole : Record) (f : Usable rec) (c : RecordOf (rec .t) (rec .r) 0
         combines = combines;
         inverts = inverts;
         corrects = corrects;
+        asks = asks;
         thirds = thirds;
       }
 

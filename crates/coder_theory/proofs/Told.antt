@@ -11,8 +11,9 @@ use lib.ListN.{length, take}
 use lib.Seq.{length-take-le}
 use Rattle.group_theory.proofs.Signs.{both}
 use Rattle.coder_theory.specs.State.{Usable, placesIn, correctedOldPlaceIn, messageIn, isCodewordIn}
-use Rattle.coder_theory.specs.Reasons.{Reason, firstReason, wrongLength, shortOutput, leftOut, badPlace, badByte, full}
+use Rattle.coder_theory.specs.Reasons.{Reason, firstReason, wrongLength, shortOutput, leftOut, notAsked, badPlace, badByte, full}
 use Rattle.coder_theory.specs.Calls.{stateReasons, wordReasons, syndromeAnswer, codewordAnswer, shown, writeReasons, encodeReasons, encodeAnswer}
+use Rattle.coder_theory.specs.Calls.{askReasons, askAnswer, commitReasons, commitAnswer}
 use Rattle.coder_theory.specs.Calls.{correctReasons, correctAnswer, combineReasons, combineAnswer, invertReasons, invertAnswer, thirdReasons, thirdAnswer}
 use Rattle.coder_theory.specs.Demand1.{Lowest, TellsPlace, TellsPlaceOfTwo}
 use Rattle.coder_theory.specs.declared.Record.{Record}
@@ -51,24 +52,27 @@ after-silent T told (x ∷ xs) ys e h =
       λ y. after-silent T told xs ys (b .1) h,
     )
 
-word-tells : (rec : Record) (w : List ℕ) → AllTell (Tells w) (wordReasons rec w)
-word-tells rec w = after-silent (Tells w) (λ n. other n w) (stateReasons rec ++ (wrongLength (placesIn rec) w ∷ [])) (badByte w ∷ []) refl (bad-tells w, λ e. end-tells w)
+-- 4, and further reasons rs after it
+byte-tells : (w : List ℕ) (rs : List Reason) → silent rs ≡ true → AllTell (Tells w) (badByte w ∷ rs)
+byte-tells w rs e = (
+  bad-tells w,
+  λ y. subst (AllTell (Tells w)) (append-nil rs) (after-silent (Tells w) (λ n. other n w) rs [] e (end-tells w)),
+)
 
--- with further reasons rs after 4
+word-tells : (rec : Record) (w : List ℕ) (rs : List Reason) → silent rs ≡ true → AllTell (Tells w) (wordReasons rec w ++ rs)
+word-tells rec w rs e = after-silent (Tells w) (λ n. other n w) (stateReasons rec ++ (wrongLength (placesIn rec) w ∷ [])) (badByte w ∷ rs) refl (byte-tells w rs e)
+
 write-tells : (rec : Record) (n : ℕ) (w : List ℕ) (room : ℕ) (rs : List Reason) → silent rs ≡ true → AllTell (Tells w) (writeReasons rec n w room ++ rs)
 write-tells rec n w room rs e =
-    after-silent (Tells w) (λ n. other n w) (stateReasons rec ++ (wrongLength n w ∷ shortOutput (placesIn rec) room ∷ [])) (badByte w ∷ rs) refl (
-      bad-tells w,
-      λ y. subst (AllTell (Tells w)) (append-nil rs) (after-silent (Tells w) (λ n. other n w) rs [] e (end-tells w)),
-    )
+    after-silent (Tells w) (λ n. other n w) (stateReasons rec ++ (wrongLength n w ∷ shortOutput (placesIn rec) room ∷ [])) (badByte w ∷ rs) refl (byte-tells w rs e)
 
 pub syndrome-tells : (rec : Record) (w : List ℕ) → TellsPlace (syndromeAnswer rec w .refusal) (syndromeAnswer rec w .place) w
 unfolding syndromeAnswer
-syndrome-tells rec w = first-tells (Tells w) (wordReasons rec w) (word-tells rec w)
+syndrome-tells rec w = first-tells (Tells w) (wordReasons rec w) (word-tells rec w [] refl)
 
 pub codeword-tells : (rec : Record) (w : List ℕ) → TellsPlace (codewordAnswer rec w .refusal) (codewordAnswer rec w .place) w
 unfolding codewordAnswer
-codeword-tells rec w = first-tells (Tells w) (wordReasons rec w) (word-tells rec w)
+codeword-tells rec w = first-tells (Tells w) (wordReasons rec w) (word-tells rec w [] refl)
 
 pub encode-tells : (rec : Record) (m out : List ℕ) → TellsPlace (encodeAnswer rec m out .refusal) (encodeAnswer rec m out .place) m
 unfolding encodeAnswer
@@ -88,6 +92,20 @@ correct-tells rec w out h =
     let x = firstReason (correctReasons rec w (length out)) in
     subst (λ (p : ℕ). TellsPlace (x .number) p w) (sym (if-refused _ _ _ h))
     (first-tells (Tells w) (correctReasons rec w (length out)) (write-tells rec (placesIn rec) w (length out) (leftOut (rec .s) (correctedOldPlaceIn rec w) ∷ full rec ∷ []) refl))
+
+-- and of a refused commit, and of asking that is refused
+pub commit-tells : (rec : Record) (p : ℕ) (w : List ℕ) → commitAnswer rec p w .refusal ≢ 0
+    → TellsPlace (commitAnswer rec p w .refusal) (commitAnswer rec p w .place) w
+unfolding commitAnswer
+commit-tells rec p w h =
+    subst (λ (q : ℕ). TellsPlace (firstReason (commitReasons rec p w) .number) q w) (sym (if-refused _ _ _ h))
+    (first-tells (Tells w) (commitReasons rec p w) (word-tells rec w (leftOut (rec .s) (correctedOldPlaceIn rec w) ∷ notAsked p (askAnswer rec w .place) ∷ full rec ∷ []) refl))
+
+pub ask-tells : (rec : Record) (w : List ℕ) → askAnswer rec w .refusal ≢ 0 → TellsPlace (askAnswer rec w .refusal) (askAnswer rec w .place) w
+unfolding askAnswer
+ask-tells rec w h =
+    subst (λ (q : ℕ). TellsPlace (firstReason (askReasons rec w) .number) q w) (sym (if-refused _ _ _ h))
+    (first-tells (Tells w) (askReasons rec w) (word-tells rec w (leftOut (rec .s) (correctedOldPlaceIn rec w) ∷ []) refl))
 
 -- ---- two words
 pub combine-tells : (rec : Record) (x y out : List ℕ) → TellsPlaceOfTwo (combineAnswer rec x y out .refusal) (combineAnswer rec x y out .place) x y

@@ -5,9 +5,10 @@ use Prim.Native.Nat.{ℕ, zero, suc}
 use lib.ListN.{length, take, drop}
 use Rattle.layout_theory.specs.Choice.{pick}
 use Rattle.layout_theory.specs.Parameters.{smallestR}
+use Rattle.words_theory.specs.Words.{flip}
 use Rattle.coder_theory.specs.State.{fresh, isUsable, placesIn, messageIn, elementIn, syndromeIn, numberIn, isCodewordIn, encodedIn}
 use Rattle.coder_theory.specs.State.{correctedIn, correctedPlaceIn, correctedOldPlaceIn, combineIn, inverseIn, thirdIn, thirdOldPlaceIn, counted}
-use Rattle.coder_theory.specs.Reasons.{Reason, firstReason, notAdmitted, notAllowed, leftOut, wrongLength, shortOutput, badByte, outside, equalPlaces, closed, unfit, full}
+use Rattle.coder_theory.specs.Reasons.{Reason, firstReason, notAdmitted, notAllowed, leftOut, wrongLength, shortOutput, badByte, outside, equalPlaces, closed, unfit, full, notAsked}
 use Rattle.coder_theory.specs.declared.Record.{Record}
 use Rattle.coder_theory.specs.declared.Opened.{Opened}
 use Rattle.coder_theory.specs.declared.Answer.{Answer}
@@ -130,6 +131,30 @@ correctAnswer rec w out =
 
 unfoldable pub correctOutput : Record → List ℕ → List ℕ → List ℕ
 correctOutput rec w out = outputOf (firstReason (correctReasons rec w (length out))) rec (correctedIn rec w) out
+
+-- ---- correction in two steps (request C-20): "asking gives the place and counts nothing"
+abbrev pub askReasons : Record → List ℕ → List Reason
+askReasons rec w = wordReasons rec w ++ (leftOut (rec .s) (correctedOldPlaceIn rec w) ∷ [])
+
+unfoldable pub askAnswer : Record → List ℕ → Answer
+askAnswer rec w =
+    let x = firstReason (askReasons rec w) in
+    record { refusal = x .number; place = ifAccepted (x .number) (correctedPlaceIn rec w) (x .place) }
+
+-- "committing takes any claimed place and a lent word, flips that place and counts"; 24 "after 11 and before 23 .. a commit whose place .. is not
+-- the one that asking would give for the word now lent, whoever named it"
+abbrev pub commitReasons : Record → ℕ → List ℕ → List Reason
+commitReasons rec p w = askReasons rec w ++ (notAsked p (askAnswer rec w .place) ∷ full rec ∷ [])
+
+-- "An accepted commit gives its place and counts among the accepted corrections."
+unfoldable pub commitAnswer : Record → ℕ → List ℕ → Corrected
+commitAnswer rec p w =
+    let x = firstReason (commitReasons rec p w) in
+    record { refusal = x .number; place = ifAccepted (x .number) p (x .place); «record» = ifAccepted (x .number) (counted rec p) rec }
+
+-- the lent word after it: "A committed 0 leaves the word"
+unfoldable pub commitOutput : Record → ℕ → List ℕ → List ℕ
+commitOutput rec p w = ifAccepted (firstReason (commitReasons rec p w) .number) (flip p w) w
 
 -- "Where two words are lent, a fault of the first comes before the same fault of the second." (document 01)
 abbrev pub combineInput : Record → List ℕ → List ℕ → ℕ → List Reason

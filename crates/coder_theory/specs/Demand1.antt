@@ -12,13 +12,13 @@ use lib.ListN.{length, getD}
 use Rattle.layout_theory.specs.Choice.{pick}
 use Rattle.layout_theory.specs.Parameters.{longest, Admitted, smallestR, placesOf, messageOf, moduliFor}
 use Rattle.layout_theory.specs.Claims.{IsSmallest}
-use Rattle.words_theory.specs.Words.{Bits, Word}
+use Rattle.words_theory.specs.Words.{Bits, Word, flip}
 use Rattle.shortened_theory.specs.Allowed.{Allowed}
 use Rattle.shortened_theory.specs.Code.{ShortenedCodeword}
 use Rattle.shortened_theory.specs.Claims.{ShortenedThreeAt}
 use Rattle.coder_theory.specs.State.{Usable}
 use Rattle.coder_theory.specs.Calls.{inForce, opened, elementAnswer, wordLength, messageLength, syndromeAnswer, codewordAnswer, shown, encodeAnswer, encodeOutput}
-use Rattle.coder_theory.specs.Calls.{correctAnswer, correctOutput, combineAnswer, combineOutput, invertAnswer, invertOutput, thirdAnswer}
+use Rattle.coder_theory.specs.Calls.{correctAnswer, correctOutput, askAnswer, commitAnswer, commitOutput, combineAnswer, combineOutput, invertAnswer, invertOutput, thirdAnswer}
 use Rattle.coder_theory.specs.Demand3Shortened.{HasNear}
 use Rattle.coder_theory.specs.declared.Record.{Record}
 
@@ -33,9 +33,10 @@ abbrev pub numbersOf : List (ℕ × Type 0) → List ℕ
 numbersOf [] = []
 numbersOf ((n, applies) ∷ rows) = n ∷ numbersOf rows
 
--- "Order: 7, 1, 21, 22, 2, 3, 4, 5, 6, 23."; 10 "after 1 at opening and right after 22 elsewhere", 11 "after 6 .. and before 23"
+-- "Order: 7, 1, 21, 22, 2, 3, 4, 5, 6, 23."; 10 "after 1 at opening and right after 22 elsewhere", 11 "after 6 .. and before 23", 24 "after 11
+-- and before 23"
 abbrev pub order : List ℕ
-order = 7 ∷ 1 ∷ 21 ∷ 22 ∷ 10 ∷ 2 ∷ 3 ∷ 4 ∷ 5 ∷ 6 ∷ 11 ∷ 23 ∷ []
+order = 7 ∷ 1 ∷ 21 ∷ 22 ∷ 10 ∷ 2 ∷ 3 ∷ 4 ∷ 5 ∷ 6 ∷ 11 ∷ 24 ∷ 23 ∷ []
 
 -- whether the second numbers are some of the first, in the same order
 abbrev pub inOrder : List ℕ → List ℕ → Bool
@@ -82,18 +83,30 @@ NotBits w = Bits w → ⊥
 abbrev pub Outside : Record → ℕ → Type 0
 Outside rec p = (p ≡ 0) ⊎ (wordPlaces rec < p)
 
--- "2. A read word or message not of its exact length, an empty one too.": of w, which has to have k bytes, and an output
+-- "2. A read word or message not of its exact length, an empty one too.": of a word w
+abbrev pub readRows : Record → List ℕ → List (ℕ × Type 0)
+readRows rec w = stateRows rec ++ ((2, length w ≢ wordPlaces rec) ∷ (4, NotBits w) ∷ [])
+
+-- 11, "a correction .. that would fall in a left-out place": no codeword is within one place
+abbrev pub NoneNear : Record → List ℕ → Type 0
+NoneNear rec w = HasNear (rec .t) (rec .r) (rec .s) w → ⊥
+
+-- the same of w, which has to have k bytes, and an output
 abbrev pub writeRows : Record → ℕ → List ℕ → List ℕ → List (ℕ × Type 0)
 writeRows rec k w out = stateRows rec ++ ((2, length w ≢ k) ∷ (3, Short rec out) ∷ (4, NotBits w) ∷ [])
 
 pub record RefusedIn (rec : Record) : Type 0 where
   pub layout : (p : ℕ) → Refused (elementAnswer rec p .refusal) (stateRows rec ++ ((5, Outside rec p) ∷ []))
-  pub syndrome : (w : List ℕ) → Refused (syndromeAnswer rec w .refusal) (stateRows rec ++ ((2, length w ≢ wordPlaces rec) ∷ (4, NotBits w) ∷ []))
-  pub codeword : (w : List ℕ) → Refused (codewordAnswer rec w .refusal) (stateRows rec ++ ((2, length w ≢ wordPlaces rec) ∷ (4, NotBits w) ∷ []))
+  pub syndrome : (w : List ℕ) → Refused (syndromeAnswer rec w .refusal) (readRows rec w)
+  pub codeword : (w : List ℕ) → Refused (codewordAnswer rec w .refusal) (readRows rec w)
   pub encode : (m out : List ℕ) → Refused (encodeAnswer rec m out .refusal) (writeRows rec (messagePlaces rec) m out)
-  -- 11, "a correction .. that would fall in a left-out place": no codeword is within one place; "23. Words is at 4,294,967,295"
+  -- "23. Words is at 4,294,967,295"
   pub correct : (w out : List ℕ) → Refused (correctAnswer rec w out .refusal)
-      (writeRows rec (wordPlaces rec) w out ++ ((11, (HasNear (rec .t) (rec .r) (rec .s) w → ⊥)) ∷ (23, rec .words ≡ 4294967295) ∷ []))
+      (writeRows rec (wordPlaces rec) w out ++ ((11, NoneNear rec w) ∷ (23, rec .words ≡ 4294967295) ∷ []))
+  -- "Asking is never refused with 23"; 24, "a commit whose place .. is not the one that asking would give for the word now lent"
+  pub ask : (w : List ℕ) → Refused (askAnswer rec w .refusal) (readRows rec w ++ ((11, NoneNear rec w) ∷ []))
+  pub commit : (p : ℕ) (w : List ℕ) → Refused (commitAnswer rec p w .refusal)
+      (readRows rec w ++ ((11, NoneNear rec w) ∷ (24, p ≢ askAnswer rec w .place) ∷ (23, rec .words ≡ 4294967295) ∷ []))
   pub combine : (x y out : List ℕ) → Refused (combineAnswer rec x y out .refusal)
       (stateRows rec ++ ((2, (length x ≢ wordPlaces rec) ⊎ (length y ≢ wordPlaces rec)) ∷ (3, Short rec out) ∷ (4, NotBits x ⊎ NotBits y) ∷ []))
   pub invert : (w out : List ℕ) → Refused (invertAnswer rec w out .refusal) (writeRows rec (wordPlaces rec) w out)
@@ -123,6 +136,10 @@ pub record AcceptsIn (rec : Record) : Type 0 where
   -- a codeword is within one place, and words is not full
   pub correct : (w out : List ℕ) → (correctAnswer rec w out .refusal ≡ 0)
       ↔ (Usable rec × IsWord rec w × HasRoom rec out × HasNear (rec .t) (rec .r) (rec .s) w × (rec .words ≢ 4294967295))
+  pub ask : (w : List ℕ) → (askAnswer rec w .refusal ≡ 0) ↔ (Usable rec × IsWord rec w × HasNear (rec .t) (rec .r) (rec .s) w)
+  -- the claimed place is 0 or one of the word's, and flipped there the word is a codeword
+  pub commit : (p : ℕ) (w : List ℕ) → (commitAnswer rec p w .refusal ≡ 0)
+      ↔ (Usable rec × IsWord rec w × (p ≤ wordPlaces rec) × CodewordIn rec (flip p w) × (rec .words ≢ 4294967295))
   pub combine : (x y out : List ℕ) → (combineAnswer rec x y out .refusal ≡ 0) ↔ (Usable rec × IsWord rec x × IsWord rec y × HasRoom rec out)
   pub invert : (w out : List ℕ) → (invertAnswer rec w out .refusal ≡ 0) ↔ (Usable rec × IsWord rec w × HasRoom rec out)
   -- the places are different, and some place makes a codeword of weight 3 with them
@@ -147,8 +164,8 @@ pub record TellsPlaceOfTwo (x p : ℕ) (v w : List ℕ) : Type 0 where
   pub none : x ≢ 4 → p ≡ 0
   pub lowest : x ≡ 4 → Lowest v p ⊎ (Bits v × Lowest w p)
 
--- what a call gives where it is refused. The place is said of accepted calls too, which tell 0; of correction and third place only where they
--- are refused
+-- what a call gives where it is refused. The place is said of accepted calls too, which tell 0; of correction, in one step or two, and third
+-- place only where they are refused
 pub record RefusalGives (rec : Record) : Type 0 where
   -- "A refused syndrome or layout call gives element number 0, and a refused codeword test says no."
   pub layout : (p : ℕ) → (elementAnswer rec p .place ≡ 0) × (elementAnswer rec p .refusal ≢ 0 → elementAnswer rec p .element ≡ 0)
@@ -161,6 +178,10 @@ pub record RefusalGives (rec : Record) : Type 0 where
   pub correct : (w out : List ℕ) → correctAnswer rec w out .refusal ≢ 0
       → TellsPlace (correctAnswer rec w out .refusal) (correctAnswer rec w out .place) w
       × (correctAnswer rec w out .«record» ≡ rec) × (correctOutput rec w out ≡ out)
+  pub ask : (w : List ℕ) → askAnswer rec w .refusal ≢ 0 → TellsPlace (askAnswer rec w .refusal) (askAnswer rec w .place) w
+  pub commit : (p : ℕ) (w : List ℕ) → commitAnswer rec p w .refusal ≢ 0
+      → TellsPlace (commitAnswer rec p w .refusal) (commitAnswer rec p w .place) w
+      × (commitAnswer rec p w .«record» ≡ rec) × (commitOutput rec p w ≡ w)
   pub combine : (x y out : List ℕ) → TellsPlaceOfTwo (combineAnswer rec x y out .refusal) (combineAnswer rec x y out .place) x y
       × (combineAnswer rec x y out .refusal ≢ 0 → combineOutput rec x y out ≡ out)
   pub invert : (w out : List ℕ) → TellsPlace (invertAnswer rec w out .refusal) (invertAnswer rec w out .place) w

@@ -17,9 +17,10 @@ use Rattle.words_theory.specs.Words as words
 use Rattle.shortened_theory.specs.Code.{isShortenedBinary, isShortenedPaired}
 use Rattle.coder_theory.specs.State.{Usable, RecordOf}
 use Rattle.coder_theory.specs.Calls.{wordLength, messageLength, elementAnswer, syndromeAnswer, codewordAnswer, shown}
-use Rattle.coder_theory.specs.Calls.{encodeAnswer, encodeOutput, correctAnswer, correctOutput, combineAnswer, combineOutput, invertAnswer, invertOutput, thirdAnswer}
+use Rattle.coder_theory.specs.Calls.{encodeAnswer, encodeOutput, correctAnswer, correctOutput, askAnswer, commitAnswer, commitOutput, combineAnswer, combineOutput, invertAnswer, invertOutput, thirdAnswer}
 use Rattle.coder_theory.specs.Demand1.{CodewordIn, ThreeIn, wordPlaces, messagePlaces, IsPlace, IsWord, IsMessage, HasRoom}
 use Rattle.coder_theory.specs.declared.Record.{Record}
+use Rattle.coder_theory.specs.declared.Corrected.{Corrected}
 
 -- the moduli of the record's code; and an output's first n − s bytes, to which a call writes a word
 abbrev pub moduliOfCode : Record → List Modulus
@@ -93,24 +94,42 @@ pub record Thirds (rec : Record) (i j : ℕ) : Type 0 where
   pub one : rec .s ≡ 0 → ThreeIn rec i j (thirdAnswer rec i j .place)
 
 -- ---- correction: the place p that it tells and the n − s bytes that it writes are demand 3's. "A longer one keeps its further bytes"; and in
--- every usable record "Each accepted correction adds one to words and to one of the other three", by the place
-pub record CorrectsIn (rec : Record) (w out : List ℕ) : Type 0 where
-  pub further : drop (wordPlaces rec) (correctOutput rec w out) ≡ drop (wordPlaces rec) out
-  pub adds : correctAnswer rec w out .refusal ≡ 0
-      → let p = correctAnswer rec w out .place in
-      correctAnswer rec w out .«record»
+-- every usable record "Each accepted correction adds one to words and to one of the other three", by the place: x is what the call answers
+pub record AddsOne (rec : Record) (x : Corrected) : Type 0 where
+  pub adds : x .refusal ≡ 0
+      → x .«record»
       ≡ record {
         t = rec .t;
         r = rec .r;
         s = rec .s;
         words = rec .words + 1;
-        clean = rec .clean + oneIf (eqb p 0);
-        «corrected_binary» = rec .«corrected_binary» + oneIf (isShortenedBinary (moduliOfCode rec) (rec .s) p);
-        «corrected_pairs» = rec .«corrected_pairs» + oneIf (isShortenedPaired (moduliOfCode rec) (rec .s) p);
+        clean = rec .clean + oneIf (eqb (x .place) 0);
+        «corrected_binary» = rec .«corrected_binary» + oneIf (isShortenedBinary (moduliOfCode rec) (rec .s) (x .place));
+        «corrected_pairs» = rec .«corrected_pairs» + oneIf (isShortenedPaired (moduliOfCode rec) (rec .s) (x .place));
       }
-  pub one : correctAnswer rec w out .refusal ≡ 0
-      → let p = correctAnswer rec w out .place in
-      oneIf (eqb p 0) + oneIf (isShortenedBinary (moduliOfCode rec) (rec .s) p) + oneIf (isShortenedPaired (moduliOfCode rec) (rec .s) p) ≡ 1
+  pub one : x .refusal ≡ 0
+      → oneIf (eqb (x .place) 0) + oneIf (isShortenedBinary (moduliOfCode rec) (rec .s) (x .place)) + oneIf (isShortenedPaired (moduliOfCode rec) (rec .s) (x .place)) ≡ 1
+
+pub record CorrectsIn (rec : Record) (w out : List ℕ) : Type 0 where
+  pub further : drop (wordPlaces rec) (correctOutput rec w out) ≡ drop (wordPlaces rec) out
+  pub counts : AddsOne rec (correctAnswer rec w out)
+
+-- ---- request C-20: "asking gives the place and counts nothing": it is accepted and tells p exactly where p is 0 or one of the word's places and
+-- flipped there the word is a codeword; with any record of the code, whatever it has counted
+pub record Asks (rec : Record) (w : List ℕ) : Type 0 where
+  pub some : (p : ℕ) → (askAnswer rec w ≡ record { refusal = 0; place = p }) ↔ ((p ≤ wordPlaces rec) × CodewordIn rec (flip p w))
+  pub either : (other : Record) → RecordOf (rec .t) (rec .r) (rec .s) other → askAnswer other w ≡ askAnswer rec w
+
+-- "committing takes any claimed place and a lent word, flips that place and counts. A committed 0 leaves the word and counts as clean, as often as
+-- it is committed. An accepted commit gives its place and counts among the accepted corrections."
+pub record Commits (rec : Record) (p : ℕ) (w : List ℕ) : Type 0 where
+  pub flips : commitAnswer rec p w .refusal ≡ 0 → commitOutput rec p w ≡ flip p w
+  pub place : commitAnswer rec p w .refusal ≡ 0 → commitAnswer rec p w .place ≡ p
+  pub counts : AddsOne rec (commitAnswer rec p w)
+  -- the word is then a codeword: asking gives 0, and the same claim again is refused with 24, unless it was 0, with any record of the code
+  pub again : commitAnswer rec p w .refusal ≡ 0 → (other : Record) → RecordOf (rec .t) (rec .r) (rec .s) other
+      → (askAnswer other (commitOutput rec p w) ≡ record { refusal = 0; place = 0 })
+      × (p ≢ 0 → commitAnswer other p (commitOutput rec p w) ≡ record { refusal = 24; place = 0; «record» = other })
 
 -- ---- all of it
 pub record Demand2In (rec : Record) : Type 0 where
@@ -122,6 +141,8 @@ pub record Demand2In (rec : Record) : Type 0 where
   pub reads : (w : List ℕ) → CodewordIn rec w → shown rec w ≡ take (messagePlaces rec) w
   pub encodes : (m out : List ℕ) → IsMessage rec m → HasRoom rec out → Encodes rec m out
   pub corrects : (w out : List ℕ) → CorrectsIn rec w out
+  pub asks : (w : List ℕ) → IsWord rec w → Asks rec w
+  pub commits : (p : ℕ) (w : List ℕ) → Commits rec p w
   pub combines : (x y out : List ℕ) → IsWord rec x → IsWord rec y → HasRoom rec out → Combines rec x y out
   pub inverts : (w out : List ℕ) → IsWord rec w → HasRoom rec out → Inverts rec w out
   pub thirds : (i j : ℕ) → IsPlace rec i → IsPlace rec j → i ≢ j → Thirds rec i j
@@ -153,6 +174,8 @@ pub record Shortens (rec all : Record) : Type 0 where
       → filledIn rec (firstBytes rec (invertOutput rec w out)) ≡ take (placesOf (rec .t)) (invertOutput all (filledIn rec w) v)
   pub corrects : (w out v : List ℕ) → IsWord rec w → HasRoom rec out → placesOf (rec .t) ≤ length v → all .words ≢ 4294967295
       → Falls (rec .s) (correctAnswer rec w out .refusal) (correctAnswer rec w out .place) (correctAnswer all (filledIn rec w) v .place)
+  pub asks : (w : List ℕ) → IsWord rec w
+      → Falls (rec .s) (askAnswer rec w .refusal) (askAnswer rec w .place) (askAnswer all (filledIn rec w) .place)
   pub thirds : (i j : ℕ) → IsPlace rec i → IsPlace rec j → i ≢ j
       → Falls (rec .s) (thirdAnswer rec i j .refusal) (thirdAnswer rec i j .place) (thirdAnswer all (i + rec .s) (j + rec .s) .place)
 

@@ -1,5 +1,5 @@
--- Document 01, "Turned back because of the input" and "because of the state", and request C-17 (10, 11): each reason with its number and
--- whether it applies. Assumes nothing.
+-- Document 01, "Turned back because of the input" and "because of the state", and requests C-17 (10, 11) and C-20 (24): each reason with its
+-- number and whether it applies. Assumes nothing.
 use mathlib.Core.Bool.{Bool, true, false, _||_, not}
 use mathlib.Core.List.{List, [], _∷_}
 use Prim.Native.Nat.{ℕ}
@@ -66,6 +66,10 @@ notAllowed t r s = because 10 (not (allows t r s))
 abbrev pub leftOut : ℕ → ℕ → Reason
 leftOut s q = because 11 (isLeftOut s q)
 
+-- "It refuses with 24 .. a commit whose place .. is not the one that asking would give": p is the claimed place, q the one that asking gives
+abbrev pub notAsked : ℕ → ℕ → Reason
+notAsked p q = because 24 (not (eqb p q))
+
 -- "21. The record is closed."
 abbrev pub closed : Record → Reason
 closed rec = because 21 (isClosed rec)
@@ -74,6 +78,6 @@ closed rec = because 21 (isClosed rec)
 abbrev pub unfit : Record → Reason
 unfit rec = because 22 (isUnfit rec)
 
--- "23. Words is at 4,294,967,295 (correction only)."
+-- "23. Words is at 4,294,967,295 (correction only).", of a commit too
 abbrev pub full : Record → Reason
 full rec = because 23 (eqb (rec .words) fullCount)

@@ -6,7 +6,7 @@ ghost use lib.ListN.{length, drop};
 ghost use Rattle.words_theory.specs.Words as words;
 
 // The other value of a place.
-fn other(b: u8) -> u8
+pub(crate) fn other(b: u8) -> u8
     ensures { λ x. ⌜ x ≡ 1 - b ⌝ }
 {
     if b == 0 { 1 } else { 0 }

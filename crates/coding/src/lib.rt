@@ -16,6 +16,7 @@ ghost use Prim.Native.Nat.{_-_, _≤_};
 ghost use lib.Dec.{eqb};
 ghost use lib.ListN.{length};
 ghost use Rattle.layout_theory.specs.Parameters.{placesOf, messageOf, moduliFor};
+ghost use Rattle.words_theory.specs.Words as words;
 ghost use Rattle.words_theory.specs.Calls.{badFrom, written, flipFor};
 ghost use Rattle.shortened_theory.specs.Code.{shortenedSyndrome, shortenedEncode};
 ghost use Rattle.shortened_theory.specs.Calls.{Fits, fitsWord, scannedFor, encodeBadFor, shortenedEncodeFor};
@@ -134,6 +135,19 @@ pub fn bad_place(word: &[u8]) -> usize
         return 0;
     }
     bits::first_bad(word, 0)
+}
+
+// Flips one place of a word where it stands; place 0 and places beyond the word are none.
+pub fn flip_in_place(place: u32, word: &mut [u8])
+    ensures { λ x. ⌜ now (word .exit) ≡ words.flip place (now (word .entry)) ⌝ }
+{
+    if place == 0 {
+        return;
+    }
+    let i = (place - 1) as usize;
+    if i < word.len() {
+        word[i] = flips::other(word[i]);
+    }
 }
 
 // A word with one place flipped, none for place 0, written over the front of an output that has room

@@ -118,7 +118,7 @@ module _ (t r d : ℕ) (s : Shape) (k : Known t r s) (c : Cut s d) (w x : List �
       fault-something t r s k (fill d w) x p f n i j g
       (q ∙ sym (ap₂ (λ (y z : ℕ). pick (eqb y z) (p - 1) i) (getD-kept d w (p - 1) h) (getD-kept d w i l)))
 
--- ---- a word with one place flipped, at the front of an output
+-- ---- a word with one place flipped
 -- a copy to the front keeps the bytes after it
 module _ (w old copied : List ℕ) (e : copied ≡ w ++ drop (length w) old) where
   pub copied-after : drop (length w) copied ≡ drop (length w) old
@@ -133,20 +133,31 @@ flip-index (suc i) w n =
     let x : suc i - 1 ≡ i = omega arith in
     ap (λ (i : ℕ). set w i (1 - getD w i 0)) x ∙ flip-set w i
 
+-- where it stands
+pub own-nothing : (w : List ℕ) (p : ℕ) → p ≡ 0 → w ≡ flip p w
+own-nothing w p z = ap (λ (q : ℕ). flip q w) (sym z)
+
+pub own-outside : (w : List ℕ) (p : ℕ) → p ≢ 0 → length w ≤ p - 1 → w ≡ flip p w
+own-outside w p n h = sym (set-out w (p - 1) (1 - getD w (p - 1) 0) h) ∙ flip-index p w n
+
+pub own-inside : (w : List ℕ) (p : ℕ) → p ≢ 0 → (b : ℕ) → b ≡ 1 - getD w (p - 1) 0 → set w (p - 1) b ≡ flip p w
+own-inside w p n b f = ap (set w (p - 1)) f ∙ flip-index p w n
+
+-- and at the front of an output
 module _ (w old : List ℕ) (p : ℕ) (e : old ≡ w ++ drop (length w) old) where
   pub flip-nothing : p ≡ 0 → old ≡ flip p w ++ drop (length w) old
-  flip-nothing z = e ∙ ap (λ (p : ℕ). flip p w ++ drop (length w) old) (sym z)
+  flip-nothing z = e ∙ ap (λ (v : List ℕ). v ++ drop (length w) old) (own-nothing w p z)
 
   pub flip-outside : p ≢ 0 → length w ≤ p - 1 → old ≡ flip p w ++ drop (length w) old
   flip-outside n h =
-      e ∙ ap (λ (v : List ℕ). v ++ drop (length w) old) (sym (set-out w (p - 1) (1 - getD w (p - 1) 0) h) ∙ flip-index p w n)
+      e ∙ ap (λ (v : List ℕ). v ++ drop (length w) old) (own-outside w p n h)
 
   pub flip-inside : p ≢ 0 → p - 1 < length w → (b : ℕ) → b ≡ 1 - getD w (p - 1) 0
       → set old (p - 1) b ≡ flip p w ++ drop (length w) old
   flip-inside n h b f =
       ap (λ (o : List ℕ). set o (p - 1) b) e
       ∙ set-append-left w (drop (length w) old) (p - 1) b h
-      ∙ ap (λ (v : List ℕ). v ++ drop (length w) old) (ap (set w (p - 1)) f ∙ flip-index p w n)
+      ∙ ap (λ (v : List ℕ). v ++ drop (length w) old) (own-inside w p n b f)
 
 pub flip-narrow : (w old : List ℕ) (p : ℕ) → length old < length w → old ≡ flipFor w p old
 unfolding flipFor

@@ -18,10 +18,9 @@ use Rattle.coder_theory.specs.Calls.{writeInput, outputOf}
 use Rattle.coder_theory.specs.declared.Record.{Record}
 use Rattle.coder_theory.proofs.Firsts.{none-accepted, accepted-none}
 use Rattle.coder_theory.proofs.Rows.{Rowed, done, row, two, by-first}
-use Rattle.coder_theory.proofs.Outcomes.{if-refused, inside-by}
+use Rattle.coder_theory.proofs.Outcomes.{if-refused, inside-by, word-by}
 use Rattle.coder_theory.proofs.Refusals.{one-applies, outside-applies, length-applies, output-applies, byte-applies, equal-applies}
 use Rattle.coder_theory.proofs.Accepted.{no-other-length, no-bad, inside}
-use Rattle.coder_theory.proofs.Accepts.{word-by}
 use Rattle.z2z4_theory.specs.Calls.{signed, codeFor, callReasons, encodeReasonsForC, encodeAnswerForC, encodeOutputForC, correctReasonsForC, correctAnswerForC, correctOutputForC}
 use Rattle.z2z4_theory.specs.Calls.{combineReasonsForC, combineAnswerForC, combineOutputForC, thirdReasonsForC, thirdAnswerForC}
 use Rattle.z2z4_theory.specs.Demand1.{refusalOf, NotAdmitted, OutsideOf, writeRowsForC, RefusedForC, AcceptsForC, UntouchedForC, Demand1ForC}

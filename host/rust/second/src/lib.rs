@@ -25,7 +25,7 @@ pub use record::Record;
 use group::{Element, Group, ZERO};
 use word::Digit;
 
-/// Why a call was refused, by the number of document 01, or 10 and 11 of request C-17.
+/// Why a call was refused, by the number of document 01, 10 and 11 of request C-17, or 24 of C-20.
 /// `place` is 0 except for number 4, where it is the lowest place with a byte above 1.
 #[derive(Debug, Clone, Copy, PartialEq, Eq)]
 pub struct Refusal {

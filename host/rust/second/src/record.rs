@@ -1,5 +1,5 @@
 //! The record that calls are made with: t, r and s of a code, and the counts of the corrections
-//! that were accepted with it.
+//! that were accepted with it, commits among them.
 
 use crate::{Code, Refusal};
 
@@ -72,6 +72,27 @@ impl Record {
         let place = code.correct(word, &mut written)?;
         let counted = self.counted(code, place)?;
         out.copy_from_slice(&written);
+        Ok((place, counted))
+    }
+
+    /// Asking (request C-20): the place that a correction would tell. Its output is thrown away
+    /// and nothing is counted, so a full record can be asked too.
+    pub fn ask(&self, word: &[u8]) -> Result<u32, Refusal> {
+        let code = self.code()?;
+        code.correct(word, &mut vec![0; code.length()])
+    }
+
+    /// Committing (request C-20): the given word becomes its codeword, and the record is counted
+    /// on. Refused with 24, before 23, where the claimed place is not the one that changes.
+    pub fn commit(&self, claimed: u32, word: &mut [u8]) -> Result<(u32, Record), Refusal> {
+        let code = self.code()?;
+        let mut codeword = vec![0; code.length()];
+        let place = code.correct(word, &mut codeword)?;
+        if claimed != place {
+            return Err(Refusal::of(24));
+        }
+        let counted = self.counted(&code, place)?;
+        word.copy_from_slice(&codeword);
         Ok((place, counted))
     }
 

@@ -3,6 +3,7 @@
 
 mod array;
 mod cases;
+mod commits;
 mod expected;
 mod large;
 mod record;

@@ -4,7 +4,7 @@
 use crate::print;
 use second::{Code, Record, Refusal};
 
-/// What is printed for a call, and the record that it returned: opening and correction do.
+/// What is printed for a call, and the record that it returned: opening, correction and commit do.
 pub struct Answer {
     pub text: String,
     pub record: Option<Record>,
@@ -59,17 +59,17 @@ pub fn encode(record: &Record, message: &[u8], out: &[u8]) -> Answer {
     written(record, out, |code, out| code.encode(message, out))
 }
 
-/// A refused correction returns the record that it was given.
 pub fn correct(record: &Record, word: &[u8], out: &[u8]) -> Answer {
-    let mut out = out.to_vec();
-    let answer = record.correct(word, &mut out);
-    let told = print::told(answer.map(|(place, _)| place));
-    let returned = answer.map_or(*record, |(_, counted)| counted);
-    let (shown, bytes) = (print::record(&returned), print::bytes(&out));
-    Answer {
-        text: format!("{told} record {shown} {{{bytes}}}"),
-        record: Some(returned),
-    }
+    counted(record, out, |out| record.correct(word, out))
+}
+
+pub fn ask(record: &Record, word: &[u8]) -> Answer {
+    without_record(print::told(record.ask(word)))
+}
+
+/// The word is printed as the call left it.
+pub fn commit(record: &Record, place: u32, word: &[u8]) -> Answer {
+    counted(record, word, |word| record.commit(place, word))
 }
 
 pub fn combine(record: &Record, first: &[u8], second: &[u8], out: &[u8]) -> Answer {
@@ -99,6 +99,23 @@ where
     let answer = record.code().and_then(|code| call(&code, &mut out));
     let told = print::told(answer.map(|()| 0));
     without_record(format!("{told} {{{}}}", print::bytes(&out)))
+}
+
+/// A call that counts: it returns the record counted on or, where it is refused, the one that it
+/// was given. All that was lent to be written is printed.
+pub fn counted<F>(record: &Record, lent: &[u8], call: F) -> Answer
+where
+    F: FnOnce(&mut [u8]) -> Result<(u32, Record), Refusal>,
+{
+    let mut lent = lent.to_vec();
+    let answer = call(&mut lent);
+    let told = print::told(answer.map(|(place, _)| place));
+    let returned = answer.map_or(*record, |(_, counted)| counted);
+    let (shown, bytes) = (print::record(&returned), print::bytes(&lent));
+    Answer {
+        text: format!("{told} record {shown} {{{bytes}}}"),
+        record: Some(returned),
+    }
 }
 
 #[cfg(test)]
@@ -207,6 +224,41 @@ mod tests {
     }
 
     #[test]
+    fn asking() {
+        check_lines(
+            "ask (3,2) [0011110]: refusal 0 place 3
+            ask (3,2) [0001110]: refusal 0 place 0
+            ask (3,2,0,4294967295,0,4294967295) [0000011]: refusal 0 place 1
+            ask (3,2,1) [000112]: refusal 4 place 6
+            ask (3,2,1) [00002]: refusal 2 place 0
+            ask (3,2,1) [000011]: refusal 11 place 0",
+        );
+    }
+
+    #[test]
+    fn commits() {
+        check_lines(
+            "commit (3,2) 3 {0011110}: refusal 0 place 3 record (3,2,0,1,0,0,1) {0001110}
+            commit (2,2,0,5,1,2,2) 1 {011}: refusal 0 place 1 record (2,2,0,6,1,3,2) {111}
+            commit (2,2,0,5,1,2,2) 0 {111}: refusal 0 place 0 record (2,2,0,6,2,2,2) {111}",
+        );
+    }
+
+    /// Of a commit with the record R, which is full, 24 is the last reason but one.
+    #[test]
+    fn refused_commits() {
+        let refused = "commit R 5 {00002}: refusal 2 place 0 record R {00002}
+            commit R 5 {0000<77>1}: refusal 4 place 5 record R {0000<77>1}
+            commit R 5 {000011}: refusal 11 place 0 record R {000011}
+            commit R 0 {010100}: refusal 24 place 0 record R {010100}
+            commit R 5 {010100}: refusal 24 place 0 record R {010100}
+            commit R 7 {010100}: refusal 24 place 0 record R {010100}
+            commit R 4294967295 {010100}: refusal 24 place 0 record R {010100}
+            commit R 6 {010100}: refusal 23 place 0 record R {010100}";
+        check_lines(&refused.replace('R', "(3,2,1,4294967295,4294967293,0,2)"));
+    }
+
+    #[test]
     fn combining_and_inverse() {
         check_lines(
             "combine (3,2) [0001110] [0001110] {8888888}: refusal 0 place 0 {0011011}
@@ -232,6 +284,8 @@ mod tests {
         read_message R [2]: []
         encode R [2] {8<10>}: refusal N place 0 {8<10>}
         correct R [2] {8<10>}: refusal N place 0 record R {8<10>}
+        ask R [2]: refusal N place 0
+        commit R 8 {8<10>}: refusal N place 0 record R {8<10>}
         combine R [2] [2] {8<10>}: refusal N place 0 {8<10>}
         invert R [2] {8<10>}: refusal N place 0 {8<10>}";
 

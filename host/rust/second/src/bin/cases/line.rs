@@ -9,7 +9,7 @@ pub enum Argument {
     Number(u32),
     /// What a call reads.
     Word(Vec<u8>),
-    /// What a call writes to, with the bytes that it holds before.
+    /// What a call writes to, with the bytes that it holds before: a commit's is its word.
     Output(Vec<u8>),
 }
 

@@ -5,6 +5,8 @@ mod calls;
 mod line;
 mod print;
 mod table;
+#[cfg(test)]
+mod wrong;
 
 use second::Record;
 use std::io::{self, Read, Write};
@@ -178,7 +180,13 @@ mod tests {
             word_length (last): 3
             correct (4,2,3) [] {}: refusal 2 place 0 record (4,2,3,0,0,0,0) {}
             word_length (last): 12
+            # as does a commit
+            commit (2,2) 1 {000}: refusal 24 place 0 record (2,2,0,0,0,0,0) {000}
+            word_length (last): 3
+            commit (4,2,3) 0 {}: refusal 2 place 0 record (4,2,3,0,0,0,0) {}
+            word_length (last): 12
             # no other call returns one
+            ask (2,2) [000]: refusal 0 place 0
             encode (2,2) [0] {000}: refusal 0 place 0 {000}
             element_at (2,2) 1: refusal 0 place 0 element 3
             word_length (last): 12
@@ -198,7 +206,13 @@ mod tests {
             # no codeword is near
             correct (last) [000011] {777777}: refusal 11 place 0 record (3,2,1,1,0,0,1) {777777}
             syndrome (last) [000011]: refusal 0 place 0 element 4
-            correct (last) [010001] {777777}: refusal 0 place 4 record (3,2,1,2,0,1,1) {010101}",
+            correct (last) [010001] {777777}: refusal 0 place 4 record (3,2,1,2,0,1,1) {010101}
+            # asking counts nothing, and a refused commit neither
+            ask (last) [000001]: refusal 0 place 6
+            commit (last) 0 {000001}: refusal 24 place 0 record (3,2,1,2,0,1,1) {000001}
+            commit (last) 6 {000001}: refusal 0 place 6 record (3,2,1,3,0,1,2) {000000}
+            commit (last) 6 {000000}: refusal 24 place 0 record (3,2,1,3,0,1,2) {000000}
+            commit (last) 0 {000000}: refusal 0 place 0 record (3,2,1,4,1,1,2) {000000}",
         );
     }
 }

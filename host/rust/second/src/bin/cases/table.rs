@@ -1,7 +1,7 @@
 //! The table of calls.
 
-use crate::calls::{combine, correct, element_at, encode, invert, is_codeword, length};
-use crate::calls::{open, read_message, syndrome, third_place, Answer};
+use crate::calls::{ask, combine, commit, correct, element_at, encode, invert, is_codeword};
+use crate::calls::{length, open, read_message, syndrome, third_place, Answer};
 use crate::line::Argument;
 use second::Code;
 
@@ -22,6 +22,8 @@ pub fn answer(name: &[u8], arguments: &[Argument]) -> Option<Answer> {
         (b"correct", [Record(record), Word(x), Output(out)]) => correct(record, x, out),
         (b"combine", [Record(record), Word(x), Word(y), Output(out)]) => combine(record, x, y, out),
         (b"invert", [Record(record), Word(x), Output(out)]) => invert(record, x, out),
+        (b"ask", [Record(record), Word(word)]) => ask(record, word),
+        (b"commit", [Record(record), Number(p), Output(word)]) => commit(record, *p, word),
         _ => return None,
     })
 }
@@ -36,7 +38,7 @@ mod tests {
     const KINDS: [&str; 4] = ["(0)", "0", "[]", "{}"];
 
     /// A call of each name, with these arguments.
-    const EACH: [&str; 12] = [
+    const EACH: [&str; 14] = [
         "open 0 0 0",
         "element_at (0) 0",
         "word_length (0)",
@@ -49,6 +51,8 @@ mod tests {
         "correct (0) [] {}",
         "combine (0) [] [] {}",
         "invert (0) [] {}",
+        "ask (0) []",
+        "commit (0) 0 {}",
     ];
 
     /// Whether a line has a call with an answer.
