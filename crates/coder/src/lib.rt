@@ -8,7 +8,8 @@ mod reading;
 
 ghost use mathlib.Core.Path.{_≡_};
 ghost use denote.Ref.{ptr};
-ghost use Rattle.shortened_theory.specs.Code.{newPlace};
+ghost use Rattle.layout_theory.specs.Choice.{pick};
+ghost use Rattle.shortened_theory.specs.Code.{newPlace, isLeftOut};
 ghost use Rattle.shortened_theory.specs.Calls.{shortenedSyndromeFor, faultAtFor};
 ghost use Rattle.coder_theory.specs.State.{fresh, placesIn};
 ghost use Rattle.coder_theory.specs.Reasons.{firstReason};
@@ -233,16 +234,7 @@ pub fn ask(record: Record, word: &[u8]) -> Answer
     }
     let e = a.syndrome;
     let q = fault(record, e, word);
-    if shortened::is_left_out(record.s, q) {
-        return Answer {
-            refusal: 11,
-            place: 0,
-        };
-    }
-    Answer {
-        refusal: 0,
-        place: new_place(record, q),
-    }
+    told(record, q)
 }
 
 // Flips a claimed place in the caller's own word, and counts it; place 0 flips none. Refused with 21, 22, 10, 2,
@@ -379,8 +371,15 @@ pub fn third_place(record: Record, i: u32, j: u32) -> Answer
     let t = record.t;
     let r = record.r;
     let s = record.s;
-    let q = shortened::third(t, r, s, i, j);
-    if shortened::is_left_out(s, q) {
+    let k = shortened::third(t, r, s, i, j);
+    told(record, k)
+}
+
+// What a call tells that came to a place, by its number before renumbering: 11 where it is left out.
+fn told(record: Record, place: u32) -> Answer
+    ensures { λ x. ⌜ x ≡ pick (isLeftOut («record» .s) place) (record { refusal = 11; place = 0 }) (record { refusal = 0; place = newPlace («record» .s) place }) ⌝ }
+{
+    if shortened::is_left_out(record.s, place) {
         return Answer {
             refusal: 11,
             place: 0,
@@ -388,7 +387,7 @@ pub fn third_place(record: Record, i: u32, j: u32) -> Answer
     }
     Answer {
         refusal: 0,
-        place: new_place(record, q),
+        place: new_place(record, place),
     }
 }
 

@@ -6,6 +6,7 @@ use mathlib.Core.List.{List, [], _∷_, _++_}
 use Prim.Native.Nat.{ℕ, _-_}
 use borrow.Author.Tests.{eq-eqb, ne-eqb, eqb-true, eqb-false, not-false}
 use lib.Dec.{eqb}
+use Rattle.layout_theory.specs.Choice.{pick}
 use Rattle.words_theory.specs.Words.{Word, flip}
 use Rattle.shortened_theory.specs.Code.{isLeftOut}
 use Rattle.shortened_theory.specs.Calls.{shortenedFaultFor}
@@ -16,7 +17,7 @@ use Rattle.coder_theory.specs.declared.Record.{Record}
 use Rattle.coder_theory.specs.declared.Answer.{Answer}
 use Rattle.coder_theory.proofs.Firsts.{NoneApplies, first-yes, first-no, first-end, first-before, first-past, none-first, none-append, accepted-none, no-place}
 use Rattle.coder_theory.proofs.States.{true-usable}
-use Rattle.coder_theory.proofs.Outcomes.{if-accepted, if-refused, word-by}
+use Rattle.coder_theory.proofs.Outcomes.{if-accepted, if-refused, word-by, by-pick}
 use Rattle.coder_theory.proofs.Corrections.{left-false, plain-fault, place-of}
 use Rattle.coder_theory.proofs.Refusals.{left-applies}
 use Rattle.coder_theory.proofs.Accepted.{word-none, not-left}
@@ -116,13 +117,16 @@ module _ (rec : Record) (w : List ℕ) (a : Answer) (e : a ≡ answerOf (firstRe
     last : firstReason (askReasons rec w) ≡ firstReason (left rec w ∷ [])
     last = first-past (wordReasons rec w) (left rec w ∷ []) none
 
-    pub ask-stopped : isLeftOut (rec .s) q ≡ true → record { refusal = 11; place = 0 } ≡ askAnswer rec w
+    ask-stopped : isLeftOut (rec .s) q ≡ true → record { refusal = 11; place = 0 } ≡ askAnswer rec w
     unfolding askAnswer
     ask-stopped y = rw (last, first-yes (left rec w) [] (ap (isLeftOut (rec .s)) (sym whole) ∙ y))
 
-    pub ask-told : isLeftOut (rec .s) q ≡ false → (p : ℕ) → p ≡ q - rec .s → record { refusal = 0; place = p } ≡ askAnswer rec w
+    ask-kept : isLeftOut (rec .s) q ≡ false → record { refusal = 0; place = q - rec .s } ≡ askAnswer rec w
     unfolding askAnswer
-    ask-told y p d = rw (last, first-no (left rec w) [] (ap (isLeftOut (rec .s)) (sym whole) ∙ y), first-end, place-of rec w q whole d)
+    ask-kept y = rw (last, first-no (left rec w) [] (ap (isLeftOut (rec .s)) (sym whole) ∙ y), first-end, place-of rec w q whole refl)
+
+    pub ask-told : (x : Answer) → x ≡ pick (isLeftOut (rec .s) q) (record { refusal = 11; place = 0 }) (record { refusal = 0; place = q - rec .s }) → x ≡ askAnswer rec w
+    ask-told x i = i ∙ by-pick (isLeftOut (rec .s) q) ask-stopped ask-kept
 
 -- ---- a commit, by what asking answered
 module _ (rec : Record) (p : ℕ) (w : List ℕ) (a : Answer) (e : a ≡ askAnswer rec w) where

@@ -39,6 +39,11 @@ pub if-refused : {A : Type 0} (n : ℕ) (x y : A) → n ≢ 0 → ifAccepted n x
 if-refused zero x y h = absurd (h refl)
 if-refused (suc n) x y h = refl
 
+-- one of two things by a test, where either is the third
+pub by-pick : {A : Type 0} {x y z : A} (b : Bool) → (b ≡ true → x ≡ z) → (b ≡ false → y ≡ z) → pick b x y ≡ z
+by-pick true e f = e refl
+by-pick false e f = f refl
+
 -- ---- 21 and 22 tell no place
 pub state-answer : (rec : Record) (rs : List Reason) (n : ℕ) → n ≡ firstReason (stateReasons rec) .number → n ≢ 0
     → answerOf (firstReason (stateReasons rec ++ rs)) ≡ record { refusal = n; place = 0 }
@@ -287,10 +292,13 @@ module _ (rec : Record) (i j x : ℕ) (e : x ≡ firstReason (placesReasons rec 
     past : firstReason (thirdReasons rec i j) ≡ firstReason (left ∷ [])
     past = first-past (placesReasons rec i j) (left ∷ []) (accepted-none (placesReasons rec i j) refl z)
 
-    pub third-stopped : isLeftOut (rec .s) q ≡ true → record { refusal = 11; place = 0 } ≡ thirdAnswer rec i j
+    third-stopped : isLeftOut (rec .s) q ≡ true → record { refusal = 11; place = 0 } ≡ thirdAnswer rec i j
     unfolding thirdAnswer
     third-stopped y = rw (past, first-yes left [] (ap (isLeftOut (rec .s)) (sym whole) ∙ y))
 
-    pub third-accepted : isLeftOut (rec .s) q ≡ false → (p : ℕ) → p ≡ q - rec .s → record { refusal = 0; place = p } ≡ thirdAnswer rec i j
+    third-kept : isLeftOut (rec .s) q ≡ false → record { refusal = 0; place = q - rec .s } ≡ thirdAnswer rec i j
     unfolding thirdAnswer thirdIn shortenedThird thirdOldPlaceIn
-    third-accepted y p k = rw (past, first-no left [] (ap (isLeftOut (rec .s)) (sym whole) ∙ y), first-end, k, whole)
+    third-kept y = rw (past, first-no left [] (ap (isLeftOut (rec .s)) (sym whole) ∙ y), first-end, whole)
+
+    pub third-told : (a : Answer) → a ≡ pick (isLeftOut (rec .s) q) (record { refusal = 11; place = 0 }) (record { refusal = 0; place = q - rec .s }) → a ≡ thirdAnswer rec i j
+    third-told a i = i ∙ by-pick (isLeftOut (rec .s) q) third-stopped third-kept

@@ -1,6 +1,6 @@
 // Theory of the calls on a record: their answers and refusals, and the three demands. The records
-// that calls take and give are declared here; two of them as C lays them out, for crate timed hands them to
-// it. Definitions are in specs/, theorems in proofs/; there is no function here.
+// that calls take and give are declared here; three of them as C lays them out, for crates timed and steps hand
+// them to it. Definitions are in specs/, theorems in proofs/; there is no function here.
 
 // Which code it is, of which s places are left out, how many corrections were accepted, and what they
 // came to. The last two counts are what document 01 calls "mended binary" and "mended in pairs".
@@ -21,6 +21,7 @@ pub struct Opened {
 }
 
 // `place` is 0 but with refusal 4, whose byte stands there, and where the answer is a place.
+#[repr(C)]
 pub struct Answer {
     pub refusal: u32,
     pub place: u32,

@@ -1,6 +1,6 @@
 -- `coder::ask` meets its contract: what the pass over the word finds, and the place that the syndrome tells. Assumes nothing.
 use borrow.Author.Needs.{needs}
-use mathlib.Core.Path.{_≡_, sym, ap, _∙_}
+use mathlib.Core.Path.{_≡_, ap, _∙_}
 use mathlib.Core.List.{List}
 use Prim.Native.Nat.{ℕ}
 use Rattle.shortened_theory.specs.Calls.{faultAtFor, shortenedFaultFor}
@@ -8,7 +8,7 @@ use Rattle.coder_theory.specs.Reasons.{firstReason}
 use Rattle.coder_theory.specs.Calls.{answerOf, wordReasons}
 use Rattle.coder_theory.proofs.Outcomes.{word-room}
 use Rattle.coder_theory.proofs.Corrections.{fault-from}
-use Rattle.coder_theory.proofs.Asking.{ask-refused, ask-stopped, ask-told}
+use Rattle.coder_theory.proofs.Asking.{ask-refused, ask-told}
 use Rattle.coder.proofs.ask.Statement.{statement}
 use Rattle.coder.proofs.ask.Tie as tie
 
@@ -31,46 +31,25 @@ fault-requires : tie.Need-fault-requires
 fault-requires c κs = search needs
 
 -- the place that was told from the syndrome
-told : (c : tie.After-fault)
+at-fault : (c : tie.After-fault)
     → let g = c .before .before .before .before .before .args in
     c .fault .result ≡ shortenedFaultFor (g .«record» .t) (g .«record» .r) (g .«record» .s) (g .word .now)
-told c =
+at-fault c =
     let i = c .before .before in
     let q = i .before in
     let g = q .before .before .args in
     let r = g .«record» in
     c .fault .ensures ∙ ap (λ (e : List ℕ). faultAtFor (r .t) (r .r) (r .s) e (g .word .now)) (q .received .ensures .1 (i .if1 .left)) ∙ fault-from (r .t) (r .r) (r .s) (g .word .now)
 
-is-left-out-requires : tie.Need-is-left-out-requires
-is-left-out-requires c κs = search needs
+told-requires : tie.Need-told-requires
+told-requires c κs = search needs
 
 returns-2 : tie.Need-returns-2
 returns-2 c =
-    let u = c .before in
-    let f = u .before in
+    let f = c .before in
     let i = f .before .before in
     let g = i .before .before .before .args in
-    ask-stopped (g .«record») (g .word .now) _ (found (i .before)) (i .if1 .left) _ (told f) (sym (u .is-left-out .ensures) ∙ c .if2 .taken)
-
-new-place-requires : tie.Need-new-place-requires
-new-place-requires c κs = search needs
-
-returns-3 : tie.Need-returns-3
-returns-3 c =
-    let u = c .before .before in
-    let f = u .before in
-    let i = f .before .before in
-    let g = i .before .before .before .args in
-    ask-told (g .«record») (g .word .now) _ (found (i .before)) (i .if1 .left) _ (told f) (sym (u .is-left-out .ensures) ∙ c .before .if2 .left) _ (c .new-place .ensures)
+    ask-told (g .«record») (g .word .now) _ (found (i .before)) (i .if1 .left) _ (at-fault f) _ (c .told .ensures)
 
 pub ask-spec : {M : Type 1} → statement M
-ask-spec =
-    tie.close
-    (tie.spec
-    received-requires
-    returns
-    fault-requires
-    is-left-out-requires
-    returns-2
-    new-place-requires
-    returns-3)
+ask-spec = tie.close (tie.spec received-requires returns fault-requires told-requires returns-2)
