@@ -13,11 +13,12 @@ MANIFEST := --offline --release --manifest-path host/rust/Cargo.toml
 # $(call need,TOOL,TARGET) ends with one clear line where the tool is missing
 need = @command -v $(1) >/dev/null || { echo "make $(2) needs $(1) on the PATH" >&2; exit 2; }
 
-.PHONY: all library example check check-c check-rust check-cases check-sheet expected compare fuzz bench bench-passes install uninstall clean help FORCE
+.PHONY: all library example check check-c check-rust check-cases check-sheet expected compare fuzz bench bench-passes bench-steps install uninstall clean help FORCE
 all: library example
 
 # `make LIBRARY=path/to/libz2z4.a ..` takes a library that is there already: nothing is proved, and rt is not needed;
-# the Rust tests and the benchmarks need libtimed.a too, which TIMED=path/to/libtimed.a gives them.
+# the Rust tests and the benchmarks need libtimed.a and libsteps.a too, which TIMED=path/to/libtimed.a and
+# STEPS=path/to/libsteps.a give them.
 ifeq ($(origin LIBRARY),command line)
 $(LIBRARY):
 	@echo "there is no library $@" >&2; exit 2
@@ -30,7 +31,8 @@ $(LIBRARY): FORCE
 endif
 library: $(LIBRARY)
 
-# the two corrections that bench-passes times, after the library, so that rt proves one thing at a time
+# the two corrections that bench-passes times and the three calls that bench-steps does, after the library and one
+# after the other, so that rt proves one thing at a time
 ifeq ($(origin TIMED),command line)
 $(TIMED):
 	@echo "there is no library $@" >&2; exit 2
@@ -40,15 +42,27 @@ $(TIMED): FORCE | $(LIBRARY)
 	$(call need,rt,bench-passes)
 	rt staticlib timed
 endif
+ifeq ($(origin STEPS),command line)
+$(STEPS):
+	@echo "there is no library $@" >&2; exit 2
+else
+STEPS := target/staticlib/libsteps.a
+$(STEPS): FORCE | $(LIBRARY) $(TIMED)
+	$(call need,rt,bench-steps)
+	rt staticlib steps
+endif
 
 # what the tests link: copies that are renewed where a library differs, so that none runs with another one
 LINKED := $(OUT)/lib/libz2z4.a
 LINKED_TIMED := $(OUT)/lib/libtimed.a
+LINKED_STEPS := $(OUT)/lib/libsteps.a
 renew = @mkdir -p $(OUT)/lib; cmp -s $(1) $@ || cp $(1) $@
 $(LINKED): $(LIBRARY) FORCE
 	$(call renew,$(LIBRARY))
 $(LINKED_TIMED): $(TIMED) FORCE
 	$(call renew,$(TIMED))
+$(LINKED_STEPS): $(STEPS) FORCE
+	$(call renew,$(STEPS))
 
 help:
 	@echo "library         prove the crates and write target/staticlib/libz2z4.a (LIBRARY=path: take that one instead)"
@@ -61,6 +75,7 @@ help:
 	@echo "fuzz            fuzz against the second program for SECONDS=$(SECONDS)"
 	@echo "bench           time the library, the second program and the program by tables; the plot goes to PLOT=$(PLOT)"
 	@echo "bench-passes    compare and time correction and the call as it was before request C-14"
+	@echo "bench-steps     compare and time correction and its two steps, asking and committing (request C-20)"
 	@echo "install         to PREFIX=$(PREFIX), under DESTDIR; uninstall takes it away"
 	@echo "clean           remove target/host"
 
@@ -106,7 +121,7 @@ check-c: $(OUT)/example $(OUT)/calls_test $(OUT)/table_test $(OUT)/long_test $(O
 	test $$ran = yes || { echo "make check needs valgrind or the sanitizers of $(CC)" >&2; exit 2; }
 
 # the benchmarks, which are tested too, have copies of the libraries, and objcopy (binutils) names their calls
-check-rust: $(LINKED) $(LINKED_TIMED)
+check-rust: $(LINKED) $(LINKED_TIMED) $(LINKED_STEPS)
 	$(call need,cargo,check)
 	$(call need,objcopy,check)
 	+$(CARGO) test $(MANIFEST)
@@ -140,14 +155,15 @@ compare: $(LINKED)
 	$(call need,cargo,compare)
 	+$(CARGO) run $(MANIFEST) -p compare -- --calls $(CALLS)
 
-# one crate has both benchmarks, so its build asks for both libraries
-bench bench-passes: $(LINKED) $(LINKED_TIMED)
+# one crate has all three benchmarks, so its build asks for every library
+bench bench-passes bench-steps: $(LINKED) $(LINKED_TIMED) $(LINKED_STEPS)
 	$(call need,cargo,$@)
 	$(call need,$(CC),$@)
 	$(call need,objcopy,$@)
 	+$(CARGO) run $(MANIFEST) -p bench $(BENCH)
 bench: BENCH = --bin bench -- --plot "$(PLOT)"
 bench-passes: BENCH = --bin passes
+bench-steps: BENCH = --bin steps
 
 # libFuzzer is guided by the branches of the second program, which is built for it with counters of them; 1,100 bytes
 # give each place of two words of 4,095 places, and some more

@@ -83,7 +83,7 @@ pub fn correction(record: Record, q: u32) -> u32
     0
 }
 
-// 24 and 23 of a commit that claims a place, where asking gave another.
+// 24 and 23 of a commit: the place that it claims, and the one that asking gave.
 pub fn claim(record: Record, claimed: u32, asked: u32) -> u32
     ensures { λ x. ⌜ x ≡ firstReason (notAsked claimed asked ∷ full «record» ∷ []) .number ⌝ }
 {

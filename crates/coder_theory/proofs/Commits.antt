@@ -38,27 +38,28 @@ by-code rec w f =
     ap (λ (x : Reason). record { refusal = x .number; place = ifAccepted (x .number) (correctedPlaceIn rec w) (x .place) })
     (state-past rec (wrongLength (placesIn rec) w ∷ badByte w ∷ leftOut (rec .s) (correctedOldPlaceIn rec w) ∷ []) (usable-true rec f))
 
+-- the place that it tells
+some : (rec : Record) → Usable rec → (w : List ℕ) → IsWord rec w → (p : ℕ) → (askAnswer rec w ≡ record { refusal = 0; place = p }) ↔ ((p ≤ wordPlaces rec) × CodewordIn rec (flip p w))
+unfolding placesIn
+some rec f w h p = (
+  (λ e.
+      let a = ask-accepted rec w (ap (λ (x : Answer). x .refusal) e) in
+      let b = asks-flipped rec w f h (a .2) in
+      let z : askAnswer rec w .place ≡ p = ap (λ (x : Answer). x .place) e in
+      subst (λ (q : ℕ). (q ≤ wordPlaces rec) × CodewordIn rec (flip q w)) z b),
+  λ a.
+      let o = asks-only rec w f h p (a .0) (a .1) in
+      ap₂ {C = Answer} (λ (x q : ℕ). record { refusal = x; place = q }) (ap (λ (x : Answer). x .refusal) (ask-accepts rec w f h (o .0))) (sym (o .1)),
+)
+
 module _ (rec : Record) (f : Usable rec) where
   either : (w : List ℕ) (other : Record) → RecordOf (rec .t) (rec .r) (rec .s) other → askAnswer other w ≡ askAnswer rec w
   either w other c =
       by-code other w (usable-of (rec .t) (rec .r) (rec .s) other (f .allowed) c)
       ∙ rw (c .isT, c .isR, c .isS) (sym (by-code rec w f))
 
-  some : (w : List ℕ) → IsWord rec w → (p : ℕ) → (askAnswer rec w ≡ record { refusal = 0; place = p }) ↔ ((p ≤ wordPlaces rec) × CodewordIn rec (flip p w))
-  unfolding placesIn
-  some w h p = (
-    (λ e.
-        let a = ask-accepted rec w (ap (λ (x : Answer). x .refusal) e) in
-        let b = asks-flipped rec w f h (a .2) in
-        let z : askAnswer rec w .place ≡ p = ap (λ (x : Answer). x .place) e in
-        subst (λ (q : ℕ). (q ≤ wordPlaces rec) × CodewordIn rec (flip q w)) z b),
-    λ a.
-        let o = asks-only rec w f h p (a .0) (a .1) in
-        ap₂ {C = Answer} (λ (x q : ℕ). record { refusal = x; place = q }) (ap (λ (x : Answer). x .refusal) (ask-accepts rec w f h (o .0))) (sym (o .1)),
-  )
-
   pub asks : (w : List ℕ) → IsWord rec w → Asks rec w
-  asks w h = record { some = some w h; either = either w }
+  asks w h = record { some = some rec f w h; either = either w }
 
   -- ---- a commit: the word is then a codeword
   module _ (p : ℕ) (w : List ℕ) (e : commitAnswer rec p w .refusal ≡ 0) where
@@ -78,7 +79,7 @@ module _ (rec : Record) (f : Usable rec) where
         let d : CodewordIn other v = rw (c .isT, c .isR, c .isS) new in
         let h = word-of other g v d in
         let o = asks-only other v g h 0 (omega arith) d in (
-          ap₂ {C = Answer} (λ (x q : ℕ). record { refusal = x; place = q }) (ap (λ (x : Answer). x .refusal) (ask-accepts other v g h (o .0))) (sym (o .1)),
+          some other g v h 0 .1 (omega arith, d),
           λ n. commit-other other p v g h (o .0) (λ z. n (z ∙ sym (o .1))),
         )
 

@@ -27,6 +27,7 @@ use Rattle.coder_theory.specs.Runs.{Call, Correction, correcting, commit
 use Rattle.coder_theory.specs.declared.Record.{Record}
 use Rattle.coder_theory.specs.declared.Answer.{Answer}
 use Rattle.coder_theory.specs.declared.Corrected.{Corrected}
+use Rattle.coder_theory.proofs.Firsts.{not-zero}
 use Rattle.coder_theory.proofs.Corrections.{correct-accepted, nearest-in}
 use Rattle.coder_theory.proofs.Refusals.{correct-untouched, opened-fresh, opened-usable}
 use Rattle.coder_theory.proofs.Asking.{ask-accepts, commit-accepted, commit-accepts, commit-untouched, commit-does}
@@ -70,7 +71,7 @@ module _ (rec : Record) (x : Correction) where
   next = answerTo rec x .«record»
 
   left : {n : ℕ} → answerTo rec x .refusal ≡ suc n → next ≡ rec
-  left {n} e = step rec x .leaves (λ z. let c : suc n ≡ 0 = sym e ∙ z in omega arith)
+  left {n} e = step rec x .leaves (not-zero e)
 
   -- a field that no count changes
   same-field : (field : Record → ℕ) → ((p : ℕ) → field (counted rec p) ≡ field rec) → field next ≡ field rec
@@ -88,10 +89,9 @@ module _ (rec : Record) (x : Correction) where
   unfolding counted
   same-r = same-field (λ (x : Record). x .r) (λ p. refl)
 
-module _ (rec : Record) (x : Correction) where
-  same-s : next rec x .s ≡ rec .s
+  same-s : next .s ≡ rec .s
   unfolding counted
-  same-s = same-field rec x (λ (x : Record). x .s) (λ p. refl)
+  same-s = same-field (λ (x : Record). x .s) (λ p. refl)
 
 -- ---- a count over a run, for any field that counts the places of a kind
 module _ (t r s : ℕ) (field : Record → ℕ) (kind : ℕ → Bool)

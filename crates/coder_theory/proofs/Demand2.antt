@@ -22,6 +22,7 @@ use Rattle.coder_theory.specs.Demand1.{CodewordIn, wordPlaces, IsWord, H
 use Rattle.coder_theory.specs.Demand2.{firstBytes, TellsSyndrome, CorrectsIn, Demand2}
 use Rattle.coder_theory.specs.declared.Record.{Record}
 use Rattle.coder_theory.specs.declared.ElementAnswer.{ElementAnswer}
+use Rattle.coder_theory.proofs.Firsts.{not-zero}
 use Rattle.coder_theory.proofs.States.{code-in, word-in, filled-in}
 use Rattle.coder_theory.proofs.Refusals.{tells, correct-untouched}
 use Rattle.coder_theory.proofs.Accepted.{syndrome-accepts, reading-accepts, correct-accepts, front}
@@ -112,7 +113,7 @@ module _ (rec : Record) (f : Usable rec) where
           let q = kept rec w f (a .1) (a .3) in
           ap (drop (wordPlaces rec)) (correct-accepts rec w out f (a .4) q (a .1) (a .2) .1)
           ∙ front (wordPlaces rec) (correctedIn rec w) out (corrected-word w (a .1) q) .1
-      go (suc n) e = ap (drop (wordPlaces rec)) (correct-untouched rec w out (λ z. let c : suc n ≡ 0 = sym e ∙ z in omega arith) .0)
+      go (suc n) e = ap (drop (wordPlaces rec)) (correct-untouched rec w out (not-zero e) .0)
 
   corrects : (w out : List ℕ) → CorrectsIn rec w out
   corrects w out = record { further = behind w out; counts = adds-one rec w (correctAnswer rec w out) (correct-step rec w out) }

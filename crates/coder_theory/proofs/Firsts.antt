@@ -3,11 +3,15 @@ use mathlib.Core.Path.{_≡_, refl, sym, ap, _∙_}
 use mathlib.Core.Logic.{_≢_}
 use mathlib.Core.List.{List, [], _∷_, _++_}
 use mathlib.Core.Bool.{Bool, true, false, not, _&&_}
-use Prim.Native.Nat.{ℕ}
+use Prim.Native.Nat.{ℕ, suc}
+use native.Mathlib.Omega.{arith}
 use lib.Dec.{eqb}
 use borrow.Author.Tests.{eqb-false, not-true}
 use Rattle.group_theory.proofs.Signs.{both}
 use Rattle.coder_theory.specs.Reasons.{Reason, accepted, firstReason}
+
+pub not-zero : {x n : ℕ} → x ≡ suc n → x ≢ 0
+not-zero {n = n} e z = let c : suc n ≡ 0 = sym e ∙ z in omega arith
 
 -- none of the reasons applies
 abbrev pub NoneApplies : List Reason → Type 0

@@ -10,9 +10,9 @@ use lib.Dec.{eqb}
 use lib.ListN.{length, take}
 use lib.Seq.{length-take-le}
 use Rattle.group_theory.proofs.Signs.{both}
-use Rattle.coder_theory.specs.State.{Usable, placesIn, correctedOldPlaceIn, messageIn, isCodewordIn}
+use Rattle.coder_theory.specs.State.{Usable, placesIn, correctedPlaceIn, correctedOldPlaceIn, messageIn, isCodewordIn}
 use Rattle.coder_theory.specs.Reasons.{Reason, firstReason, wrongLength, shortOutput, leftOut, notAsked, badPlace, badByte, full}
-use Rattle.coder_theory.specs.Calls.{stateReasons, wordReasons, syndromeAnswer, codewordAnswer, shown, writeReasons, encodeReasons, encodeAnswer}
+use Rattle.coder_theory.specs.Calls.{ifAccepted, stateReasons, wordReasons, syndromeAnswer, codewordAnswer, shown, writeReasons, encodeReasons, encodeAnswer}
 use Rattle.coder_theory.specs.Calls.{askReasons, askAnswer, commitReasons, commitAnswer}
 use Rattle.coder_theory.specs.Calls.{correctReasons, correctAnswer, combineReasons, combineAnswer, invertReasons, invertAnswer, thirdReasons, thirdAnswer}
 use Rattle.coder_theory.specs.Demand1.{Lowest, TellsPlace, TellsPlaceOfTwo}
@@ -84,28 +84,28 @@ unfolding invertAnswer
 invert-tells rec w out =
     first-tells (Tells w) (invertReasons rec w (length out)) (write-tells rec (placesIn rec) w (length out) [] refl)
 
--- the place of a refused correction; that of an accepted one is the place it changes
+-- the place of a refused correction, commit or question; that of an accepted one, p, is the place it changes
+refused-tells : (w : List ℕ) (rs : List Reason) (p : ℕ) → AllTell (Tells w) rs → firstReason rs .number ≢ 0
+    → TellsPlace (firstReason rs .number) (ifAccepted (firstReason rs .number) p (firstReason rs .place)) w
+refused-tells w rs p all h = subst (λ (q : ℕ). TellsPlace (firstReason rs .number) q w) (sym (if-refused _ _ _ h)) (first-tells (Tells w) rs all)
+
 pub correct-tells : (rec : Record) (w out : List ℕ) → correctAnswer rec w out .refusal ≢ 0
     → TellsPlace (correctAnswer rec w out .refusal) (correctAnswer rec w out .place) w
 unfolding correctAnswer
-correct-tells rec w out h =
-    let x = firstReason (correctReasons rec w (length out)) in
-    subst (λ (p : ℕ). TellsPlace (x .number) p w) (sym (if-refused _ _ _ h))
-    (first-tells (Tells w) (correctReasons rec w (length out)) (write-tells rec (placesIn rec) w (length out) (leftOut (rec .s) (correctedOldPlaceIn rec w) ∷ full rec ∷ []) refl))
-
--- and of a refused commit, and of asking that is refused
-pub commit-tells : (rec : Record) (p : ℕ) (w : List ℕ) → commitAnswer rec p w .refusal ≢ 0
-    → TellsPlace (commitAnswer rec p w .refusal) (commitAnswer rec p w .place) w
-unfolding commitAnswer
-commit-tells rec p w h =
-    subst (λ (q : ℕ). TellsPlace (firstReason (commitReasons rec p w) .number) q w) (sym (if-refused _ _ _ h))
-    (first-tells (Tells w) (commitReasons rec p w) (word-tells rec w (leftOut (rec .s) (correctedOldPlaceIn rec w) ∷ notAsked p (askAnswer rec w .place) ∷ full rec ∷ []) refl))
+correct-tells rec w out =
+    refused-tells w (correctReasons rec w (length out)) (correctedPlaceIn rec w)
+    (write-tells rec (placesIn rec) w (length out) (leftOut (rec .s) (correctedOldPlaceIn rec w) ∷ full rec ∷ []) refl)
 
 pub ask-tells : (rec : Record) (w : List ℕ) → askAnswer rec w .refusal ≢ 0 → TellsPlace (askAnswer rec w .refusal) (askAnswer rec w .place) w
 unfolding askAnswer
-ask-tells rec w h =
-    subst (λ (q : ℕ). TellsPlace (firstReason (askReasons rec w) .number) q w) (sym (if-refused _ _ _ h))
-    (first-tells (Tells w) (askReasons rec w) (word-tells rec w (leftOut (rec .s) (correctedOldPlaceIn rec w) ∷ []) refl))
+ask-tells rec w = refused-tells w (askReasons rec w) (correctedPlaceIn rec w) (word-tells rec w (leftOut (rec .s) (correctedOldPlaceIn rec w) ∷ []) refl)
+
+pub commit-tells : (rec : Record) (p : ℕ) (w : List ℕ) → commitAnswer rec p w .refusal ≢ 0
+    → TellsPlace (commitAnswer rec p w .refusal) (commitAnswer rec p w .place) w
+unfolding commitAnswer
+commit-tells rec p w =
+    refused-tells w (commitReasons rec p w) p
+    (word-tells rec w (leftOut (rec .s) (correctedOldPlaceIn rec w) ∷ notAsked p (askAnswer rec w .place) ∷ full rec ∷ []) refl)
 
 -- ---- two words
 pub combine-tells : (rec : Record) (x y out : List ℕ) → TellsPlaceOfTwo (combineAnswer rec x y out .refusal) (combineAnswer rec x y out .place) x y

@@ -13,12 +13,12 @@ use Rattle.coder_theory.specs.State.{placesIn, correctedIn, correctedPla
 use Rattle.coder_theory.specs.Reasons.{Reason, firstReason, wrongLength, shortOutput, badByte, notAsked, full}
 use Rattle.coder_theory.specs.Calls.{ifAccepted, stateReasons, askReasons, askAnswer, commitReasons, commitAnswer, commitOutput, correctReasons, correctAnswer, correctOutput}
 use Rattle.coder_theory.specs.Demand1.{wordPlaces, HasRoom}
-use Rattle.coder_theory.specs.Turns.{bothAnswer, bothWord, InTurnFor, InTurn}
+use Rattle.coder_theory.specs.Turns.{InTurn}
 use Rattle.coder_theory.specs.declared.Record.{Record}
 use Rattle.coder_theory.specs.declared.Answer.{Answer}
 use Rattle.coder_theory.specs.declared.Corrected.{Corrected}
-use Rattle.coder_theory.proofs.Firsts.{first-yes, first-no, first-before, first-past, first-after, accepted-none, numbered}
-use Rattle.coder_theory.proofs.Outcomes.{if-accepted, if-refused}
+use Rattle.coder_theory.proofs.Firsts.{not-zero, first-yes, first-no, first-before, first-past, first-after, accepted-none, numbered}
+use Rattle.coder_theory.proofs.Outcomes.{if-refused}
 use Rattle.coder_theory.proofs.Refusals.{correct-untouched}
 use Rattle.coder_theory.proofs.Refused.{refused}
 use Rattle.coder_theory.proofs.Corrections.{correct-accepted, nearest-in}
@@ -35,7 +35,7 @@ first-without xs ys y some h = go (y .applies) refl (firstReason xs .number) ref
     go false a n e = first-after xs (y ∷ ys) ys (first-no y ys a)
     go true a zero e = absurd (h (ap (λ (x : Reason). x .number) (first-past xs (y ∷ ys) (accepted-none xs some e) ∙ first-yes y ys a)))
     go true a (suc n) e =
-        let k : firstReason xs .number ≢ 0 = λ z. let c : suc n ≡ 0 = sym e ∙ z in omega arith in
+        let k = not-zero e in
         first-before xs (y ∷ ys) k ∙ sym (first-before xs ys k)
 
 module _ (rec : Record) (w out : List ℕ) where
@@ -55,25 +55,24 @@ module _ (rec : Record) (w out : List ℕ) where
   answered p x =
       record { refusal = x .number; place = ifAccepted (x .number) p (x .place); «record» = ifAccepted (x .number) (counted rec p) rec }
 
-  same : correctAnswer rec w out .refusal ≢ 3 → correctAnswer rec w out ≡ bothAnswer rec w
-  unfolding correctAnswer askAnswer commitAnswer
-  same h = go (firstReason (askReasons rec w) .number) refl
-    where
-      go : (n : ℕ) → firstReason (askReasons rec w) .number ≡ n → correctAnswer rec w out ≡ bothAnswer rec w
-      go zero e =
-          ap (answered (correctedPlaceIn rec w)) (as-asked h ∙ sym as-committed)
-          ∙ ap (λ (p : ℕ). answered p (firstReason (commitReasons rec (askAnswer rec w .place) w))) (sym (asked rec w e))
-          ∙ sym (if-accepted _ _ _ e)
-      go (suc n) e =
-          let k : firstReason (askReasons rec w) .number ≢ 0 = λ z. let c : suc n ≡ 0 = sym e ∙ z in omega arith in
-          ap (answered (correctedPlaceIn rec w)) (as-asked h ∙ first-before (askReasons rec w) (full rec ∷ []) k)
-          ∙ rw (if-refused (firstReason (askReasons rec w) .number) (counted rec (correctedPlaceIn rec w)) rec k) (sym (if-refused _ _ _ k))
+  stopped : correctAnswer rec w out .refusal ≢ 3 → askAnswer rec w .refusal ≢ 0
+      → correctAnswer rec w out ≡ record { refusal = askAnswer rec w .refusal; place = askAnswer rec w .place; «record» = rec }
+  unfolding correctAnswer askAnswer
+  stopped h k =
+      ap (answered (correctedPlaceIn rec w)) (as-asked h ∙ first-before (askReasons rec w) (full rec ∷ []) k)
+      ∙ rw (if-refused (firstReason (askReasons rec w) .number) (counted rec (correctedPlaceIn rec w)) rec k)
+
+  same : correctAnswer rec w out .refusal ≢ 3 → askAnswer rec w .refusal ≡ 0 → correctAnswer rec w out ≡ commitAnswer rec (askAnswer rec w .place) w
+  unfolding correctAnswer commitAnswer
+  same h e =
+      ap (answered (correctedPlaceIn rec w)) (as-asked h ∙ sym as-committed)
+      ∙ ap (λ (p : ℕ). answered p (firstReason (commitReasons rec (askAnswer rec w .place) w))) (sym (asked rec w e))
 
   room : HasRoom rec out → correctAnswer rec w out .refusal ≢ 3
   room l e = let s = refused rec .correct w out .numbers .1 .1 .1 .1 .0 .0 e .1 in omega arith
 
   -- ---- the word
-  bytes : correctAnswer rec w out .refusal ≡ 0 → take (wordPlaces rec) (correctOutput rec w out) ≡ bothWord rec w
+  bytes : correctAnswer rec w out .refusal ≡ 0 → take (wordPlaces rec) (correctOutput rec w out) ≡ commitOutput rec (askAnswer rec w .place) w
   unfolding correctAnswer placesIn correctedIn correctedPlaceIn correctedOldPlaceIn
   bytes e =
       let a = correct-accepted rec w out e in
@@ -84,7 +83,6 @@ module _ (rec : Record) (w out : List ℕ) where
       ∙ nearest-in rec w (a .0) (a .1) .flipped (a .4)
       ∙ ap (λ (x : Answer). flip (x .place) w) (sym b)
       ∙ sym (commit-does rec (askAnswer rec w .place) w c .2)
-      ∙ sym (if-accepted _ _ _ (ap (λ (x : Answer). x .refusal) b))
 
   further : drop (wordPlaces rec) (correctOutput rec w out) ≡ drop (wordPlaces rec) out
   unfolding correctAnswer
@@ -92,24 +90,16 @@ module _ (rec : Record) (w out : List ℕ) where
     where
       go : (n : ℕ) → correctAnswer rec w out .refusal ≡ n → drop (wordPlaces rec) (correctOutput rec w out) ≡ drop (wordPlaces rec) out
       go zero e = behind rec (correct-accepted rec w out e .0) w out
-      go (suc n) e = ap (drop (wordPlaces rec)) (correct-untouched rec w out (λ z. let c : suc n ≡ 0 = sym e ∙ z in omega arith) .0)
-
-  untold : bothAnswer rec w .refusal ≢ 0 → (bothWord rec w ≡ w) × (bothAnswer rec w .«record» ≡ rec)
-  untold = go (askAnswer rec w .refusal)
-    where
-      go : (n : ℕ) → let p = askAnswer rec w .place in
-          let x = ifAccepted n (commitAnswer rec p w) (record { refusal = n; place = p; «record» = rec }) in
-          x .refusal ≢ 0 → (ifAccepted n (commitOutput rec p w) w ≡ w) × (x .«record» ≡ rec)
-      go zero h = commit-untouched rec (askAnswer rec w .place) w h
-      go (suc n) h = (refl, refl)
+      go (suc n) e = ap (drop (wordPlaces rec)) (correct-untouched rec w out (not-zero e) .0)
 
 pub in-turn : InTurn
 in-turn rec w out =
     record {
       room = room rec w out;
+      stopped = stopped rec w out;
       same = same rec w out;
       bytes = bytes rec w out;
       further = further rec w out;
       untouched = λ h. correct-untouched rec w out h .0;
-      left = untold rec w out;
+      unaltered = commit-untouched rec (askAnswer rec w .place) w;
     }

@@ -152,7 +152,7 @@ commitAnswer rec p w =
     let x = firstReason (commitReasons rec p w) in
     record { refusal = x .number; place = ifAccepted (x .number) p (x .place); «record» = ifAccepted (x .number) (counted rec p) rec }
 
--- the lent word after it: "A committed 0 leaves the word"
+-- the word after it: "A committed 0 leaves the word"
 unfoldable pub commitOutput : Record → ℕ → List ℕ → List ℕ
 commitOutput rec p w = ifAccepted (firstReason (commitReasons rec p w) .number) (flip p w) w
 

@@ -93,8 +93,8 @@ pub record Thirds (rec : Record) (i j : ℕ) : Type 0 where
   pub none : (thirdAnswer rec i j .refusal ≡ 11) ↔ ((k : ℕ) → ThreeIn rec i j k → ⊥)
   pub one : rec .s ≡ 0 → ThreeIn rec i j (thirdAnswer rec i j .place)
 
--- ---- correction: the place p that it tells and the n − s bytes that it writes are demand 3's. "A longer one keeps its further bytes"; and in
--- every usable record "Each accepted correction adds one to words and to one of the other three", by the place: x is what the call answers
+-- ---- in every usable record "Each accepted correction adds one to words and to one of the other three", by the place that it tells: x is what a
+-- correction or a commit answers
 pub record AddsOne (rec : Record) (x : Corrected) : Type 0 where
   pub adds : x .refusal ≡ 0
       → x .«record»
@@ -110,6 +110,7 @@ pub record AddsOne (rec : Record) (x : Corrected) : Type 0 where
   pub one : x .refusal ≡ 0
       → oneIf (eqb (x .place) 0) + oneIf (isShortenedBinary (moduliOfCode rec) (rec .s) (x .place)) + oneIf (isShortenedPaired (moduliOfCode rec) (rec .s) (x .place)) ≡ 1
 
+-- correction: the place that it tells and the n − s bytes that it writes are demand 3's. "A longer one keeps its further bytes"
 pub record CorrectsIn (rec : Record) (w out : List ℕ) : Type 0 where
   pub further : drop (wordPlaces rec) (correctOutput rec w out) ≡ drop (wordPlaces rec) out
   pub counts : AddsOne rec (correctAnswer rec w out)

@@ -28,7 +28,7 @@ pub data Other : Type 0 where
   encoding inverting : List ℕ → List ℕ → Other
   combining : List ℕ → List ℕ → List ℕ → Other
 
--- the calls that correct, and count: correction of a word to an output, and a commit of a claimed place in a lent word
+-- the calls that correct, and count: correction of a word to an output, and a commit of a claimed place in a word of the caller's
 pub data Correction : Type 0 where
   correcting : List ℕ → List ℕ → Correction
   committing : ℕ → List ℕ → Correction

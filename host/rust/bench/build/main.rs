@@ -1,6 +1,7 @@
 //! Compiles the program by tables (host/c/table.c), makes the copies of the libraries, and notes,
 //! for the head of each report, which compilers and flags made the programs. The binary `bench` is
-//! linked with libz2z4.a and the tables, `passes` with libtimed.a, which stands beside it.
+//! linked with libz2z4.a and the tables, `passes` with libtimed.a and `steps` with libsteps.a, which
+//! stand beside it.
 
 mod copies;
 
@@ -16,6 +17,7 @@ const CALLS: [&str; 4] = [
     "z2z4_third_place",
 ];
 const TIMED: [&str; 2] = ["timed_correct", "timed_two_passes"];
+const STEPS: [&str; 3] = ["steps_correct", "steps_ask", "steps_commit"];
 const FLAGS: [&str; 2] = ["-std=c99", "-O3"];
 /// Where the code of the program by tables stands, see `copies::place`. Its times move too: of the
 /// offsets that a linker can choose this was the quickest when they were tried, for every call but
@@ -26,12 +28,13 @@ fn main() {
     let cc = env::var("CC").unwrap_or_else(|_| "cc".into());
     println!("cargo::rerun-if-env-changed=CC");
     let library = PathBuf::from(env::var("DEP_Z2Z4_LIBRARY").expect("set by the crate calls"));
-    let timed = library.with_file_name("libtimed.a");
-    for file in [&library, &timed] {
+    let [timed, steps] = ["libtimed.a", "libsteps.a"].map(|name| library.with_file_name(name));
+    for file in [&library, &timed, &steps] {
         println!("cargo::rerun-if-changed={}", file.display());
     }
     link("bench", programs(&cc, &library));
-    link("passes", corrections(&cc, &timed));
+    link("passes", exported(&cc, &timed, "timed", &TIMED));
+    link("steps", exported(&cc, &steps, "steps", &STEPS));
     let rustc = env::var("RUSTC").expect("set by cargo");
     let level = env::var("OPT_LEVEL").expect("set by cargo");
     note("BENCH_CC", &format!("{} {}", version(&cc), FLAGS.join(" ")));
@@ -41,6 +44,7 @@ fn main() {
     );
     note("BENCH_LIBRARY", &maker(&library));
     note("BENCH_TIMED", &maker(&timed));
+    note("BENCH_STEPS", &maker(&steps));
 }
 
 fn link(binary: &str, objects: Result<Vec<PathBuf>, String>) {
@@ -63,15 +67,15 @@ fn programs(cc: &str, library: &Path) -> Result<Vec<PathBuf>, String> {
     Ok(objects)
 }
 
-/// What `passes` is linked with.
-fn corrections(cc: &str, timed: &Path) -> Result<Vec<PathBuf>, String> {
-    if !timed.is_file() {
-        let name = timed.display();
+/// What `passes` or `steps` is linked with: the calls of a crate that only this benchmark uses.
+fn exported(cc: &str, library: &Path, name: &str, calls: &[&str]) -> Result<Vec<PathBuf>, String> {
+    if !library.is_file() {
+        let file = library.display();
         return Err(format!(
-            "there is no {name}: `rt staticlib timed` builds it"
+            "there is no {file}: `rt staticlib {name}` builds it"
         ));
     }
-    copies::make(cc, timed, &TIMED, &folder())
+    copies::make(cc, library, calls, &folder())
 }
 
 /// The program by tables.

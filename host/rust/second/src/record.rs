@@ -78,20 +78,33 @@ impl Record {
     /// Asking (request C-20): the place that a correction would tell. Its output is thrown away
     /// and nothing is counted, so a full record can be asked too.
     pub fn ask(&self, word: &[u8]) -> Result<u32, Refusal> {
-        let code = self.code()?;
+        self.ask_in(&self.code()?, word)
+    }
+
+    /// The same with the record's code at hand.
+    pub fn ask_in(&self, code: &Code, word: &[u8]) -> Result<u32, Refusal> {
         code.correct(word, &mut vec![0; code.length()])
     }
 
     /// Committing (request C-20): the given word becomes its codeword, and the record is counted
     /// on. Refused with 24, before 23, where the claimed place is not the one that changes.
     pub fn commit(&self, claimed: u32, word: &mut [u8]) -> Result<(u32, Record), Refusal> {
-        let code = self.code()?;
+        self.commit_in(&self.code()?, claimed, word)
+    }
+
+    /// The same with the record's code at hand.
+    pub fn commit_in(
+        &self,
+        code: &Code,
+        claimed: u32,
+        word: &mut [u8],
+    ) -> Result<(u32, Record), Refusal> {
         let mut codeword = vec![0; code.length()];
         let place = code.correct(word, &mut codeword)?;
         if claimed != place {
             return Err(Refusal::of(24));
         }
-        let counted = self.counted(&code, place)?;
+        let counted = self.counted(code, place)?;
         word.copy_from_slice(&codeword);
         Ok((place, counted))
     }

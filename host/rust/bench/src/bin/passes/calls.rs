@@ -2,68 +2,19 @@
 //! checks these declarations against the Rattle source; that both agree with the second program
 //! would fail if they were wrong.
 
-/// As crate coder_theory declares them.
-#[repr(C)]
-#[derive(Clone, Copy, Debug, PartialEq, Eq)]
-pub struct Record {
-    pub t: u32,
-    pub r: u32,
-    pub s: u32,
-    pub words: u32,
-    pub clean: u32,
-    pub corrected_binary: u32,
-    pub corrected_pairs: u32,
-}
-
-#[repr(C)]
-#[derive(Clone, Copy, Debug, PartialEq, Eq)]
-pub struct Corrected {
-    pub refusal: u32,
-    pub place: u32,
-    pub record: Record,
-}
-
-impl From<second::Record> for Record {
-    fn from(record: second::Record) -> Record {
-        Record {
-            t: record.t,
-            r: record.r,
-            s: record.s,
-            words: record.words,
-            clean: record.clean,
-            corrected_binary: record.corrected_binary,
-            corrected_pairs: record.corrected_pairs,
-        }
-    }
-}
-
-pub type Call = unsafe extern "C" fn(Record, *const u8, usize, *mut u8, usize) -> Corrected;
-
-/// Makes a call.
-pub fn correct(call: Call, record: Record, word: &[u8], out: &mut [u8]) -> Corrected {
-    // Each pointer is to as many bytes as its length says, and borrowing keeps `out` apart.
-    unsafe {
-        call(
-            record,
-            word.as_ptr(),
-            word.len(),
-            out.as_mut_ptr(),
-            out.len(),
-        )
-    }
-}
+use bench::coder::{Correct, Corrected, Record};
 
 /// The calls of one copy. They are made through these pointers, so that the loop which times them
 /// is one and the same for both and for all copies.
 #[derive(Clone, Copy)]
 pub struct Calls {
-    pub as_it_was: Call,
-    pub new: Call,
+    pub as_it_was: Correct,
+    pub new: Correct,
 }
 
 impl Calls {
     /// In the order of the fields.
-    pub fn both(self) -> [Call; 2] {
+    pub fn both(self) -> [Correct; 2] {
         [self.as_it_was, self.new]
     }
 

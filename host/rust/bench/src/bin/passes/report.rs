@@ -1,8 +1,8 @@
 //! The figures as text.
 
 use crate::calls::COPIES;
-use crate::kinds::KINDS;
 use crate::times::Figures;
+use bench::kinds::KINDS;
 use bench::spread::ends;
 use bench::text::{nanoseconds, processor, ratio};
 use bench::turns::Effort;

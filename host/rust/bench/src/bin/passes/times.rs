@@ -1,9 +1,10 @@
 //! Times both calls in turn, batch by batch, on the words of one kind and one code.
 
-use crate::calls::{correct, Call, Record, COPIES};
-use crate::kinds::Kind;
-use bench::spread::{by_copy, spread, Spread};
-use bench::turns::{batch, in_turn, rounds};
+use crate::calls::COPIES;
+use bench::coder::{correct, Correct, Record};
+use bench::kinds::Kind;
+use bench::spread::Spread;
+use bench::turns::{batch, in_turn, Turns};
 use bench::words::SAMPLES;
 use second::Code;
 use std::hint::black_box;
@@ -22,87 +23,71 @@ pub struct Figures {
     pub copies: [f64; COPIES.len()],
 }
 
-/// One kind of one code, and the turns so far.
+/// One kind of one code, and the turns so far: of the call as it was, then of the new one.
 pub struct Cell<'a> {
     code: &'a Code,
     kind: Kind,
+    given: Given,
+    turns: Turns<2>,
+}
+
+/// What both calls are given.
+struct Given {
     record: Record,
     words: Vec<Vec<u8>>,
     /// Both calls write here; it is not cleared between them.
     out: Vec<u8>,
-    rounds: [usize; 2],
-    turns: Vec<Turn>,
 }
 
-/// A batch of the call as it was and one of the new call, both of one copy: nanoseconds a call.
-struct Turn {
-    copy: usize,
-    times: [f64; 2],
-}
-
-impl<'a> Cell<'a> {
-    pub fn new(code: &'a Code, kind: Kind, batch_ns: f64) -> Cell<'a> {
-        let mut cell = Cell {
-            code,
-            kind,
-            record: second::Record::of(code).into(),
-            words: kind.words(code, SAMPLES),
-            out: vec![0; code.length()],
-            rounds: [2; 2],
-            turns: vec![],
-        };
-        let short = cell.turn(0, 0);
-        let enough = |a_call: f64| rounds(batch_ns, SAMPLES, a_call);
-        cell.rounds = short.times.map(enough);
-        cell
-    }
-
-    /// A pass, with a round of each call to warm up. Each copy in turn comes first.
-    pub fn measure(&mut self, pass: usize, batches: usize) {
-        for copy in in_turn(pass, COPIES.len()) {
-            for call in COPIES[copy].both() {
-                self.batch(call, 1);
-            }
-            for first in 0..batches {
-                let turn = self.turn(copy, first);
-                self.turns.push(turn);
-            }
-        }
-    }
-
-    /// Both calls, the new one first where `first` is odd.
-    fn turn(&mut self, copy: usize, first: usize) -> Turn {
-        let mut times = [0.0; 2];
-        for call in in_turn(first, 2) {
-            times[call] = self.batch(COPIES[copy].both()[call], self.rounds[call]);
-        }
-        Turn { copy, times }
-    }
-
-    fn batch(&mut self, call: Call, rounds: usize) -> f64 {
-        let (record, out) = (self.record, &mut self.out);
+impl Given {
+    fn batch(&mut self, call: Correct, rounds: usize) -> f64 {
+        let (record, out) = (self.record, &mut self.out[..]);
         batch(&self.words, rounds, move |word| {
             black_box(correct(call, black_box(record), word, black_box(&mut *out)));
         })
     }
+}
+
+impl<'a> Cell<'a> {
+    pub fn new(code: &'a Code, kind: Kind, batch_ns: f64) -> Cell<'a> {
+        let mut given = Given {
+            record: second::Record::of(code).into(),
+            words: kind.words(code, SAMPLES),
+            out: vec![0; code.length()],
+        };
+        let calls = COPIES[0].both();
+        let turns = Turns::new(batch_ns, |call, rounds| given.batch(calls[call], rounds));
+        Cell {
+            code,
+            kind,
+            given,
+            turns,
+        }
+    }
+
+    /// A pass. Each copy in turn comes first.
+    pub fn measure(&mut self, pass: usize, batches: usize) {
+        for copy in in_turn(pass, COPIES.len()) {
+            let calls = COPIES[copy].both();
+            let batch = |call: usize, rounds| self.given.batch(calls[call], rounds);
+            self.turns.take(copy, batches, batch);
+        }
+    }
 
     pub fn figures(self) -> Figures {
-        let all = |figure: fn(&Turn) -> f64| spread(self.turns.iter().map(figure).collect());
-        let of_copy = |turn: &Turn| (turn.copy, ratio(turn));
-        let ratios: Vec<_> = self.turns.iter().map(of_copy).collect();
         Figures {
             t: self.code.t(),
             r: self.code.r(),
             n: self.code.length(),
             kind: self.kind,
-            as_it_was: all(|turn| turn.times[0]),
-            new: all(|turn| turn.times[1]),
-            ratio: all(ratio),
-            copies: by_copy(&ratios),
+            as_it_was: self.turns.over_all(|[was, _]| was),
+            new: self.turns.over_all(|[_, new]| new),
+            ratio: self.turns.over_all(ratio),
+            copies: self.turns.by_copy(ratio),
         }
     }
 }
 
-fn ratio(turn: &Turn) -> f64 {
-    turn.times[1] / turn.times[0]
+fn ratio([was, new]: [f64; 2]) -> f64 {
+    new / was
 }

@@ -1,7 +1,8 @@
 //! The comparison sees a wrong call: each is the new call with one fault.
 
 use crate::agree::compare;
-use crate::calls::{Call, Calls, Corrected, Record, COPIES};
+use crate::calls::{Calls, COPIES};
+use bench::coder::{Correct, Corrected, Record};
 use second::Code;
 
 /// The new call, followed by a fault.
@@ -69,7 +70,7 @@ wrong!(after_the_output, |told, out, len| {
 });
 
 /// What is said first of a wrong call in the second of two copies.
-fn found(new: Call) -> String {
+fn found(new: Correct) -> String {
     let copies = [COPIES[0], Calls { new, ..COPIES[1] }];
     let code = Code::open(5, 3, 0).expect("admitted");
     let differences = compare(&code, &copies).differences;

@@ -102,16 +102,16 @@ where
 }
 
 /// A call that counts: it returns the record counted on or, where it is refused, the one that it
-/// was given. All that was lent to be written is printed.
-pub fn counted<F>(record: &Record, lent: &[u8], call: F) -> Answer
+/// was given. All that was own to be written is printed.
+pub fn counted<F>(record: &Record, own: &[u8], call: F) -> Answer
 where
     F: FnOnce(&mut [u8]) -> Result<(u32, Record), Refusal>,
 {
-    let mut lent = lent.to_vec();
-    let answer = call(&mut lent);
+    let mut own = own.to_vec();
+    let answer = call(&mut own);
     let told = print::told(answer.map(|(place, _)| place));
     let returned = answer.map_or(*record, |(_, counted)| counted);
-    let (shown, bytes) = (print::record(&returned), print::bytes(&lent));
+    let (shown, bytes) = (print::record(&returned), print::bytes(&own));
     Answer {
         text: format!("{told} record {shown} {{{bytes}}}"),
         record: Some(returned),

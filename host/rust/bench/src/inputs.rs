@@ -1,19 +1,62 @@
-//! What the calls are compared on: the words that are timed, and calls that are refused for every
-//! reason there is.
+//! What calls are compared on: the words that are timed, and what is refused for every reason that a
+//! record, a word or an output gives.
 
+use crate::coder::Corrected;
 use crate::kinds::{Kind, KINDS};
-use bench::words::SAMPLES;
+use crate::words::SAMPLES;
 use second::draw::Draw;
 use second::{Code, Record, Refusal};
 
-/// One call. `code` is the record's, or why there is none.
+/// A record and a word. `code` is the record's, or why there is none.
 pub struct Input<'a> {
     pub record: Record,
     pub code: &'a Result<Code, Refusal>,
     pub name: &'static str,
     pub word: &'a [u8],
-    /// Bytes of the output.
-    pub room: usize,
+    /// Places of the code, or where there is none, of the whole code of t and r.
+    pub places: usize,
+}
+
+impl Input<'_> {
+    /// Outputs that are too short, exact and longer.
+    pub fn rooms(&self) -> [usize; 4] {
+        let n = self.places;
+        [0, n - 1, n, n + 19]
+    }
+
+    /// What the second program tells by a call that takes the record's code; refused, it leaves the
+    /// record.
+    pub fn told(&self, call: impl FnOnce(&Code) -> Result<(u32, Record), Refusal>) -> Corrected {
+        let code = self.code.as_ref().map_err(|refusal| *refusal);
+        let accepted = code
+            .and_then(call)
+            .map(|(place, counted)| (0, place, counted));
+        let refused = |refusal: Refusal| (refusal.number, refusal.place, self.record);
+        let (refusal, place, after) = accepted.unwrap_or_else(refused);
+        Corrected {
+            refusal,
+            place,
+            record: after.into(),
+        }
+    }
+
+    /// The input, and which call it is given to, in words.
+    pub fn named(&self, call: &str) -> String {
+        let Record {
+            t,
+            r,
+            s,
+            words,
+            clean,
+            corrected_binary,
+            corrected_pairs,
+        } = self.record;
+        let (name, length) = (self.name, self.word.len());
+        format!(
+            "t = {t}, r = {r}, s = {s}, {name}, {length} places, {call}, \
+             counts {words} {clean} {corrected_binary} {corrected_pairs}"
+        )
+    }
 }
 
 /// Records with the t and r of a code: fresh, with counts, nearly full and full, unfit, closed, and
@@ -68,19 +111,18 @@ pub fn each(whole: &Code, mut take: impl FnMut(&Input)) {
         let code = &record.code();
         let shaped = code.as_ref().unwrap_or(whole);
         for (name, word) in &words(shaped, record) {
-            let inputs = rooms(shaped).map(|room| Input {
+            take(&Input {
                 record,
                 code,
                 name,
                 word,
-                room,
+                places: shaped.length(),
             });
-            inputs.iter().for_each(&mut take);
         }
     }
 }
 
-/// The words to correct with a record of a code. With the fresh record it is every one that is
+/// The words to be given with a record of a code. With the fresh record it is every one that is
 /// timed, and bad bytes at every place; with others some of them. Further some of a wrong length.
 fn words(code: &Code, record: Record) -> Vec<(&'static str, Vec<u8>)> {
     let timed = record == Record::of(code);
@@ -117,10 +159,4 @@ fn bad_words(code: &Code, step: usize) -> Vec<Vec<u8>> {
         word
     };
     (0..n).step_by(step).map(word).collect()
-}
-
-/// Outputs that are too short, exact and longer.
-fn rooms(code: &Code) -> [usize; 4] {
-    let n = code.length();
-    [0, n - 1, n, n + 19]
 }

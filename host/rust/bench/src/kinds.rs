@@ -1,6 +1,6 @@
-//! The words that are corrected: of each kind as many different ones as a batch goes through.
+//! The words that calls are given: of each kind as many different ones as a batch goes through.
 
-use bench::words::codeword;
+use crate::words::codeword;
 use second::draw::Draw;
 use second::Code;
 
@@ -62,7 +62,7 @@ impl Kind {
     }
 }
 
-/// As many bytes as the new call tests before its pass: the byte behind them is the first that only
+/// As many bytes as a correction tests before its pass: the byte behind them is the first that only
 /// the pass finds. In a shorter word the last is taken.
 fn front(n: usize) -> usize {
     if n < 1024 {
@@ -75,7 +75,7 @@ fn front(n: usize) -> usize {
 #[cfg(test)]
 mod tests {
     use super::*;
-    use bench::words::SAMPLES;
+    use crate::words::SAMPLES;
     use std::collections::HashSet;
 
     /// The number of a refused syndrome and its place, or 0 and whether it is a codeword.
