@@ -22,12 +22,12 @@ use Rattle.coder_theory.proofs.Corrections.{left-false, plain-fault, pl
 use Rattle.coder_theory.proofs.Refusals.{left-applies}
 use Rattle.coder_theory.proofs.Accepted.{word-none, not-left}
 
-abbrev pub left : Record → List ℕ → Reason
-left rec w = leftOut (rec .s) (correctedOldPlaceIn rec w)
+abbrev pub leftReason : Record → List ℕ → Reason
+leftReason rec w = leftOut (rec .s) (correctedOldPlaceIn rec w)
 
 -- ---- where asking is accepted, and where its place is left out
 pub ask-none : (rec : Record) (w : List ℕ) → Usable rec → Word (placesIn rec) w → (FallsOut rec w → ⊥) → NoneApplies (askReasons rec w)
-ask-none rec w f h q = none-append (wordReasons rec w) (left rec w ∷ []) (word-none rec w f h) (not-left (rec .s) (correctedOldPlaceIn rec w) q, tt)
+ask-none rec w f h q = none-append (wordReasons rec w) (leftReason rec w ∷ []) (word-none rec w f h) (not-left (rec .s) (correctedOldPlaceIn rec w) q, tt)
 
 pub ask-accepts : (rec : Record) (w : List ℕ) → Usable rec → Word (placesIn rec) w → (FallsOut rec w → ⊥)
     → askAnswer rec w ≡ record { refusal = 0; place = correctedPlaceIn rec w }
@@ -37,7 +37,7 @@ ask-accepts rec w f h q = rw (none-first (askReasons rec w) (ask-none rec w f h 
 pub ask-left : (rec : Record) (w : List ℕ) → Usable rec → Word (placesIn rec) w → FallsOut rec w → askAnswer rec w ≡ record { refusal = 11; place = 0 }
 unfolding askAnswer
 ask-left rec w f h q =
-    rw (first-past (wordReasons rec w) (left rec w ∷ []) (word-none rec w f h) ∙ first-yes (left rec w) [] (left-applies (rec .s) (correctedOldPlaceIn rec w) .1 q))
+    rw (first-past (wordReasons rec w) (leftReason rec w ∷ []) (word-none rec w f h) ∙ first-yes (leftReason rec w) [] (left-applies (rec .s) (correctedOldPlaceIn rec w) .1 q))
 
 pub ask-accepted : (rec : Record) (w : List ℕ) → askAnswer rec w .refusal ≡ 0 → Usable rec × Word (placesIn rec) w × (FallsOut rec w → ⊥)
 unfolding askAnswer
@@ -105,7 +105,7 @@ module _ (rec : Record) (w : List ℕ) (a : Answer) (e : a ≡ answerOf (firstRe
   unfolding askAnswer
   ask-refused h =
       let k : firstReason (wordReasons rec w) .number ≢ 0 = λ z. h (number-by ∙ z) in
-      rw (first-before (wordReasons rec w) (left rec w ∷ []) k, if-refused _ _ _ k, ← number-by, ap (λ (x : Answer). x .place) e)
+      rw (first-before (wordReasons rec w) (leftReason rec w ∷ []) k, if-refused _ _ _ k, ← number-by, ap (λ (x : Answer). x .place) e)
 
   module _ (h : a .refusal ≡ 0) (q : ℕ) (g : q ≡ shortenedFaultFor (rec .t) (rec .r) (rec .s) w) where
     none : NoneApplies (wordReasons rec w)
@@ -114,16 +114,16 @@ module _ (rec : Record) (w : List ℕ) (a : Answer) (e : a ≡ answerOf (firstRe
     whole : q ≡ correctedOldPlaceIn rec w
     whole = g ∙ plain-fault rec w (true-usable rec (none .1 .0) (none .1 .1 .0)) (word-by (placesIn rec) w (none .1 .1 .1 .0) (none .1 .1 .1 .1 .0))
 
-    last : firstReason (askReasons rec w) ≡ firstReason (left rec w ∷ [])
-    last = first-past (wordReasons rec w) (left rec w ∷ []) none
+    last : firstReason (askReasons rec w) ≡ firstReason (leftReason rec w ∷ [])
+    last = first-past (wordReasons rec w) (leftReason rec w ∷ []) none
 
     ask-stopped : isLeftOut (rec .s) q ≡ true → record { refusal = 11; place = 0 } ≡ askAnswer rec w
     unfolding askAnswer
-    ask-stopped y = rw (last, first-yes (left rec w) [] (ap (isLeftOut (rec .s)) (sym whole) ∙ y))
+    ask-stopped y = rw (last, first-yes (leftReason rec w) [] (ap (isLeftOut (rec .s)) (sym whole) ∙ y))
 
     ask-kept : isLeftOut (rec .s) q ≡ false → record { refusal = 0; place = q - rec .s } ≡ askAnswer rec w
     unfolding askAnswer
-    ask-kept y = rw (last, first-no (left rec w) [] (ap (isLeftOut (rec .s)) (sym whole) ∙ y), first-end, place-of rec w q whole refl)
+    ask-kept y = rw (last, first-no (leftReason rec w) [] (ap (isLeftOut (rec .s)) (sym whole) ∙ y), first-end, place-of rec w q whole refl)
 
     pub ask-told : (x : Answer) → x ≡ pick (isLeftOut (rec .s) q) (record { refusal = 11; place = 0 }) (record { refusal = 0; place = q - rec .s }) → x ≡ askAnswer rec w
     ask-told x i = i ∙ by-pick (isLeftOut (rec .s) q) ask-stopped ask-kept

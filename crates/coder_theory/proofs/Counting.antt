@@ -23,7 +23,7 @@ use Rattle.shortened_theory.specs.Claims.{NearestTo}
 use Rattle.shortened_theory.proofs.Filling.{old-within}
 use Rattle.coder_theory.specs.State.{Usable, fresh, moduliIn, placesIn, correctedPlaceIn, correctedOldPlaceIn, isBinaryIn, isPairedIn, fullCount, counted, FallsOut}
 use Rattle.coder_theory.specs.Calls.{inForce, correctAnswer, commitAnswer}
-use Rattle.coder_theory.specs.Runs.{Call, Correction, correcting, committing, correction, other, readBy, answerTo, run, outcome, outcomes, howMany, Counting, Meant, AllMeant, Meaning, times, moreClean, Often}
+use Rattle.coder_theory.specs.Runs.{Call, Correction, correcting, committing, correction, other, readBy, answerTo, run, outcome, outcomes, howMany, Counting, Meant, AllMeant, Meaning, repeated, moreClean, Often}
 use Rattle.coder_theory.specs.declared.Record.{Record}
 use Rattle.coder_theory.specs.declared.Answer.{Answer}
 use Rattle.coder_theory.specs.declared.Corrected.{Corrected}
@@ -297,4 +297,4 @@ often rec w f d (suc k) h =
     let a = asks-only rec w f h′ 0 (omega arith) d in
     let c = commit-accepts rec 0 w f h′ (a .0) (a .1) (λ z. absurd (omega arith)) in
     let i = often (counted rec 0) w (counted-fit rec 0 f (omega arith)) d k (omega arith) in
-    ap (λ (x : Record). run x (times k (correction (committing 0 w)))) (commit-does rec 0 w c .1) ∙ i ∙ clean-next rec k
+    ap (λ (x : Record). run x (repeated k (correction (committing 0 w)))) (commit-does rec 0 w c .1) ∙ i ∙ clean-next rec k

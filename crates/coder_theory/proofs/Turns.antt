@@ -23,7 +23,7 @@ use Rattle.coder_theory.proofs.Refusals.{correct-untouched}
 use Rattle.coder_theory.proofs.Refused.{refused}
 use Rattle.coder_theory.proofs.Corrections.{correct-accepted, nearest-in}
 use Rattle.coder_theory.proofs.Accepted.{correct-accepts, front}
-use Rattle.coder_theory.proofs.Asking.{left, asked, ask-accepts, commit-accepts, commit-does, commit-untouched}
+use Rattle.coder_theory.proofs.Asking.{leftReason, asked, ask-accepts, commit-accepts, commit-does, commit-untouched}
 use Rattle.coder_theory.proofs.Demand2.{corrected-word, behind}
 
 -- a reason whose number is not the one given may be left out of a list
@@ -42,7 +42,7 @@ module _ (rec : Record) (w out : List ℕ) where
   -- ---- 3 aside, the reasons of correction are those of asking, and 23
   as-asked : correctAnswer rec w out .refusal ≢ 3 → firstReason (correctReasons rec w (length out)) ≡ firstReason (askReasons rec w ++ (full rec ∷ []))
   unfolding correctAnswer
-  as-asked h = first-without (stateReasons rec ++ (wrongLength (placesIn rec) w ∷ [])) (badByte w ∷ left rec w ∷ full rec ∷ []) (shortOutput (placesIn rec) (length out)) refl h
+  as-asked h = first-without (stateReasons rec ++ (wrongLength (placesIn rec) w ∷ [])) (badByte w ∷ leftReason rec w ∷ full rec ∷ []) (shortOutput (placesIn rec) (length out)) refl h
 
   -- a commit of the place that was told is not refused with 24
   as-committed : firstReason (commitReasons rec (askAnswer rec w .place) w) ≡ firstReason (askReasons rec w ++ (full rec ∷ []))

@@ -112,9 +112,9 @@ abbrev pub Meaning : Type 0
 Meaning = (t r s : ℕ) → opened t r s .refusal ≡ 0 → (xs : List Call) → AllMeant t (inForce t r) s (outcomes (opened t r s .«record») xs)
 
 -- ---- "A committed 0 leaves the word and counts as clean, as often as it is committed.": k times, as long as words has room for them
-abbrev pub times : ℕ → Call → List Call
-times zero x = []
-times (suc k) x = x ∷ times k x
+abbrev pub repeated : ℕ → Call → List Call
+repeated zero x = []
+repeated (suc k) x = x ∷ repeated k x
 
 abbrev pub moreClean : ℕ → Record → Record
 moreClean k rec =
@@ -130,4 +130,4 @@ moreClean k rec =
 
 abbrev pub Often : Type 0
 Often = (rec : Record) (w : List ℕ) → Usable rec → CodewordIn rec w → (k : ℕ) → rec .words + k ≤ fullCount
-    → run rec (times k (correction (committing 0 w))) ≡ moreClean k rec
+    → run rec (repeated k (correction (committing 0 w))) ≡ moreClean k rec
