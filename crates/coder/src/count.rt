@@ -1,4 +1,4 @@
-// The counts of a record: an accepted correction adds one to words and to one of the other three.
+// The counts of a record: an accepted correction or commit adds one to words and to one of the other three.
 ghost use mathlib.Core.Path.{_≡_};
 ghost use mathlib.Core.Logic.{_≢_};
 ghost use Prim.Native.Nat.{_+_, _<_};

@@ -1,4 +1,4 @@
-// The calls of document 01 on a record. Every input is answered. A refusal is a number; 0 says that the
+// The calls of document 01 and of request C-20 on a record. Every input is answered. A refusal is a number; 0 says that the
 // call is accepted. What each call answers is defined in crate coder_theory, specs/Calls.antt; the
 // theorems on these answers, demand 3 among them, are there too. What is wrong with a call is found by
 // crate checks; count.rt counts; the work on plain words of the shortened code is done by crates coding (the pass

@@ -58,8 +58,8 @@ module _ (rec : Record) (f : Usable rec) where
       by-code other w (usable-of (rec .t) (rec .r) (rec .s) other (f .allowed) c)
       ∙ rw (c .isT, c .isR, c .isS) (sym (by-code rec w f))
 
-  pub asks : (w : List ℕ) → IsWord rec w → Asks rec w
-  asks w h = record { some = some rec f w h; either = either w }
+  pub asks : (w : List ℕ) → Asks rec w
+  asks w = record { some = some rec f w; either = either w }
 
   -- ---- a commit: the word is then a codeword
   module _ (p : ℕ) (w : List ℕ) (e : commitAnswer rec p w .refusal ≡ 0) where

@@ -3,7 +3,7 @@ use mathlib.Core.Path.{_≡_, refl, sym, ap, _∙_}
 use mathlib.Core.Logic.{_≢_}
 use mathlib.Core.List.{List, [], _∷_, _++_}
 use mathlib.Core.Bool.{Bool, true, false, not, _&&_}
-use Prim.Native.Nat.{ℕ, suc}
+use Prim.Native.Nat.{ℕ, zero, suc}
 use native.Mathlib.Omega.{arith}
 use lib.Dec.{eqb}
 use borrow.Author.Tests.{eqb-false, not-true}
@@ -86,6 +86,18 @@ accepted-none (x ∷ xs) k e = let n = both (not (eqb (x .number) 0)) (numbered 
     go : not (eqb (x .number) 0) ≡ true → (firstReason xs .number ≡ 0 → NoneApplies xs) → (b : Bool) → x .applies ≡ b → NoneApplies (x ∷ xs)
     go n f true y = absurd (eqb-false (x .number) 0 (not-true (eqb (x .number) 0) n) (sym (ap (λ (x : Reason). x .number) (first-yes x xs y)) ∙ e))
     go n f false y = (y, f (sym (ap (λ (x : Reason). x .number) (first-no x xs y)) ∙ e))
+
+-- a reason whose number is not the one given may be left out of a list
+pub first-without : (xs ys : List Reason) (y : Reason) → numbered xs ≡ true → firstReason (xs ++ (y ∷ ys)) .number ≢ y .number
+    → firstReason (xs ++ (y ∷ ys)) ≡ firstReason (xs ++ ys)
+first-without xs ys y some h = go (y .applies) refl (firstReason xs .number) refl
+  where
+    go : (b : Bool) → y .applies ≡ b → (n : ℕ) → firstReason xs .number ≡ n → firstReason (xs ++ (y ∷ ys)) ≡ firstReason (xs ++ ys)
+    go false a n e = first-after xs (y ∷ ys) ys (first-no y ys a)
+    go true a zero e = absurd (h (ap (λ (x : Reason). x .number) (first-past xs (y ∷ ys) (accepted-none xs some e) ∙ first-yes y ys a)))
+    go true a (suc n) e =
+        let k = not-zero e in
+        first-before xs (y ∷ ys) k ∙ sym (first-before xs ys k)
 
 -- none of the reasons tells a place
 abbrev pub Placeless : List Reason → Type 0

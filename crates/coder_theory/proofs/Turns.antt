@@ -1,7 +1,7 @@
 -- Correction equals asking and committing in turn: `in-turn`. Its statement is in specs/Turns. Assumes nothing.
 use mathlib.Core.Path.{_≡_, refl, sym, ap, _∙_}
 use mathlib.Core.Logic.{_≢_}
-use mathlib.Core.Bool.{Bool, true, false, not}
+use mathlib.Core.Bool.{not}
 use mathlib.Core.List.{List, [], _∷_, _++_}
 use Prim.Native.Nat.{ℕ, zero, suc, _≤_}
 use native.Mathlib.Omega.{arith}
@@ -17,7 +17,7 @@ use Rattle.coder_theory.specs.Turns.{InTurn}
 use Rattle.coder_theory.specs.declared.Record.{Record}
 use Rattle.coder_theory.specs.declared.Answer.{Answer}
 use Rattle.coder_theory.specs.declared.Corrected.{Corrected}
-use Rattle.coder_theory.proofs.Firsts.{not-zero, first-yes, first-no, first-before, first-past, first-after, accepted-none, numbered}
+use Rattle.coder_theory.proofs.Firsts.{not-zero, first-no, first-before, first-after, first-without}
 use Rattle.coder_theory.proofs.Outcomes.{if-refused}
 use Rattle.coder_theory.proofs.Refusals.{correct-untouched}
 use Rattle.coder_theory.proofs.Refused.{refused}
@@ -25,18 +25,6 @@ use Rattle.coder_theory.proofs.Corrections.{correct-accepted, nearest-i
 use Rattle.coder_theory.proofs.Accepted.{correct-accepts, front}
 use Rattle.coder_theory.proofs.Asking.{leftReason, asked, ask-accepts, commit-accepts, commit-does, commit-untouched}
 use Rattle.coder_theory.proofs.Demand2.{corrected-word, behind}
-
--- a reason whose number is not the one given may be left out of a list
-first-without : (xs ys : List Reason) (y : Reason) → numbered xs ≡ true → firstReason (xs ++ (y ∷ ys)) .number ≢ y .number
-    → firstReason (xs ++ (y ∷ ys)) ≡ firstReason (xs ++ ys)
-first-without xs ys y some h = go (y .applies) refl (firstReason xs .number) refl
-  where
-    go : (b : Bool) → y .applies ≡ b → (n : ℕ) → firstReason xs .number ≡ n → firstReason (xs ++ (y ∷ ys)) ≡ firstReason (xs ++ ys)
-    go false a n e = first-after xs (y ∷ ys) ys (first-no y ys a)
-    go true a zero e = absurd (h (ap (λ (x : Reason). x .number) (first-past xs (y ∷ ys) (accepted-none xs some e) ∙ first-yes y ys a)))
-    go true a (suc n) e =
-        let k = not-zero e in
-        first-before xs (y ∷ ys) k ∙ sym (first-before xs ys k)
 
 module _ (rec : Record) (w out : List ℕ) where
   -- ---- 3 aside, the reasons of correction are those of asking, and 23

@@ -116,9 +116,9 @@ pub record CorrectsIn (rec : Record) (w out : List ℕ) : Type 0 where
   pub counts : AddsOne rec (correctAnswer rec w out)
 
 -- ---- request C-20: "asking gives the place and counts nothing": it is accepted and tells p exactly where p is 0 or one of the word's places and
--- flipped there the word is a codeword; with any record of the code, whatever it has counted
+-- flipped there the word is a codeword; and it answers alike, refused or not, with any record of the code, whatever that has counted
 pub record Asks (rec : Record) (w : List ℕ) : Type 0 where
-  pub some : (p : ℕ) → (askAnswer rec w ≡ record { refusal = 0; place = p }) ↔ ((p ≤ wordPlaces rec) × CodewordIn rec (flip p w))
+  pub some : IsWord rec w → (p : ℕ) → (askAnswer rec w ≡ record { refusal = 0; place = p }) ↔ ((p ≤ wordPlaces rec) × CodewordIn rec (flip p w))
   pub either : (other : Record) → RecordOf (rec .t) (rec .r) (rec .s) other → askAnswer other w ≡ askAnswer rec w
 
 -- "committing takes any claimed place and a lent word, flips that place and counts. A committed 0 leaves the word and counts as clean, as often as
@@ -142,7 +142,7 @@ pub record Demand2In (rec : Record) : Type 0 where
   pub reads : (w : List ℕ) → CodewordIn rec w → shown rec w ≡ take (messagePlaces rec) w
   pub encodes : (m out : List ℕ) → IsMessage rec m → HasRoom rec out → Encodes rec m out
   pub corrects : (w out : List ℕ) → CorrectsIn rec w out
-  pub asks : (w : List ℕ) → IsWord rec w → Asks rec w
+  pub asks : (w : List ℕ) → Asks rec w
   pub commits : (p : ℕ) (w : List ℕ) → Commits rec p w
   pub combines : (x y out : List ℕ) → IsWord rec x → IsWord rec y → HasRoom rec out → Combines rec x y out
   pub inverts : (w out : List ℕ) → IsWord rec w → HasRoom rec out → Inverts rec w out

@@ -41,7 +41,7 @@ pub struct TestAnswer {
     pub yes: bool,
 }
 
-// What correction and commit answer: the place that it changed, 0 for none, and the record with its counts.
+// What correction and commit answer: the place that they changed, 0 for none, and the record with its counts.
 #[repr(C)]
 pub struct Corrected {
     pub refusal: u32,

@@ -1,5 +1,5 @@
 // One pass over a word: its syndrome, and the lowest place of a byte above 1; the codeword of a message, by
-// the same pass; and a word with one place flipped. The first s places may be left out (request C-17): what is
+// the same pass; and one place flipped, in a copy or where it stands. The first s places may be left out (request C-17): what is
 // read is said of the word filled with s zeros, but no such word is made. Every input is answered: nothing is
 // done where t and r are not admitted, s is not allowed, a word or a message is not of its length, or an
 // output is too short. What each function answers is defined in crates words_theory and shortened_theory,
