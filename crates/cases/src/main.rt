@@ -1,6 +1,8 @@
 // Answers calls of the coder that standard input lists, one a line: prints each line and, after a colon, its
 // answer. README says how a line is written. The file `stdin` beside src/ has document 01's executed cases and
 // those of the requests; `stdout`, what has to be printed for it, is written by a second program.
+#![tactic(auto)]
+
 mod calls;
 mod fields;
 mod lines;

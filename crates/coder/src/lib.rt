@@ -3,6 +3,8 @@
 // theorems on these answers, demand 3 among them, are there too. What is wrong with a call is found by
 // crate checks; count.rt counts; the work on plain words of the shortened code is done by crates coding (the pass
 // over a received word, encoding, a correction's flip), combining, places and shortened.
+#![tactic(auto)]
+
 mod count;
 mod reading;
 

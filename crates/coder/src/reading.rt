@@ -2,7 +2,7 @@
 use group::Element;
 
 // The refusal, or 0, and its place; and the syndrome where the word is not refused.
-#[derive(Drop)]
+#[derive(Clone, Copy)]
 pub struct Received {
     pub refusal: u32,
     pub place: u32,

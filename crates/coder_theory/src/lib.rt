@@ -1,11 +1,12 @@
 // Theory of the calls on a record: their answers and refusals, and the three demands. The records
 // that calls take and give are declared here; three of them as C lays them out, for crates timed and steps hand
 // them to it. Definitions are in specs/, theorems in proofs/; there is no function here.
+#![tactic(auto)]
 
 // Which code it is, of which s places are left out, how many corrections were accepted, and what they
 // came to. The last two counts are what document 01 calls "mended binary" and "mended in pairs".
 #[repr(C)]
-#[derive(Drop)]
+#[derive(Clone, Copy)]
 pub struct Record {
     pub t: u32,
     pub r: u32,
@@ -16,7 +17,7 @@ pub struct Record {
     pub corrected_pairs: u32,
 }
 
-#[derive(Drop)]
+#[derive(Clone, Copy)]
 pub struct Opened {
     pub refusal: u32,
     pub record: Record,
@@ -24,14 +25,14 @@ pub struct Opened {
 
 // `place` is 0 but with refusal 4, whose byte stands there, and where the answer is a place.
 #[repr(C)]
-#[derive(Drop)]
+#[derive(Clone, Copy)]
 pub struct Answer {
     pub refusal: u32,
     pub place: u32,
 }
 
 // The number of an element.
-#[derive(Drop)]
+#[derive(Clone, Copy)]
 pub struct ElementAnswer {
     pub refusal: u32,
     pub place: u32,
@@ -39,7 +40,7 @@ pub struct ElementAnswer {
 }
 
 // Yes or no.
-#[derive(Drop)]
+#[derive(Clone, Copy)]
 pub struct TestAnswer {
     pub refusal: u32,
     pub place: u32,
@@ -48,7 +49,7 @@ pub struct TestAnswer {
 
 // What correction and commit answer: the place that they changed, 0 for none, and the record with its counts.
 #[repr(C)]
-#[derive(Drop)]
+#[derive(Clone, Copy)]
 pub struct Corrected {
     pub refusal: u32,
     pub place: u32,
@@ -56,7 +57,7 @@ pub struct Corrected {
 }
 
 // n − s and n − t − s.
-#[derive(Drop)]
+#[derive(Clone, Copy)]
 pub struct Size {
     pub places: u32,
     pub message: u32,

@@ -1,12 +1,9 @@
 // Bytes above 1: whether there are some in a stretch of bytes, and the lowest place of one. The highest byte
 // is found many bytes at a time.
-ghost use Rattle.std.specs.Prelude.{◌≡◌, ◌+◌, ◌≤◌, length, drop, nat_lt};
+ghost use Rattle.std.specs.Prelude.{◌≡◌, ◌+◌, ◌≤◌, ltb, length, drop};
 ghost use Rattle.layout_theory.specs.Choice.{pick};
-ghost use Rattle.words_theory.specs.Words.{is_odd};
 ghost use Rattle.words_theory.specs.Calls.{bad_from};
 ghost use Rattle.loops_theory.specs.Passing.{BitsIn, Highest, Says, head_of};
-
-use std::num;
 
 // As many bytes as are looked at together where the lowest place is searched.
 const BLOCK: usize = 16;
@@ -93,20 +90,7 @@ fn highest(word: &[u8], start: usize, n: usize) -> u8
 
 // The larger of two bytes.
 pub(crate) fn larger(a: u8, b: u8) -> u8
-    ensures { result ≡ pick (nat_lt a b) b a }
+    ensures { result ≡ pick (ltb a b) b a }
 {
     if a < b { b } else { a }
-}
-
-// Whether the number of ones is odd.
-pub(crate) fn odd(word: &[u8]) -> bool
-    ensures { result ≡ is_odd word.now }
-{
-    let mut c: u8 = 0;
-    let mut i: usize = 0;
-    while i < word.len() {
-        c = num::wrapping_add_u8(c, word[i]);
-        i += 1;
-    }
-    c % 2 == 1
 }

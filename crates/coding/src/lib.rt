@@ -4,13 +4,15 @@
 // done where t and r are not admitted, s is not allowed, a word or a message is not of its length, or an
 // output is too short. What each function answers is defined in crates words_theory and shortened_theory,
 // specs/Calls.antt.
+#![tactic(auto)]
+
 mod bits;
 mod check;
 mod flips;
 mod part;
 mod weights;
 
-ghost use Rattle.std.specs.Prelude.{◌≡◌, ◌-◌, ◌≤◌, true, length, ◌==◌};
+ghost use Rattle.std.specs.Prelude.{◌≡◌, true, ◌-◌, ◌≤◌, eqb, length};
 ghost use Rattle.layout_theory.specs.Parameters.{places_of, message_of, moduli_for};
 ghost use Rattle.words_theory.specs.Words as words;
 ghost use Rattle.words_theory.specs.Calls.{bad_from, written, flip_for};
@@ -31,7 +33,6 @@ pub fn scan(t: u32, r: u32, s: u32, word: &[u8]) -> Scanned
     Scanned {
         bad: 0,
         syndrome: group::zero(0, 0),
-        odd: false,
     }
 }
 
@@ -49,19 +50,16 @@ fn scan_fit(t: u32, r: u32, d: usize, word: &[u8]) -> Scanned
             return Scanned {
                 bad: 0,
                 syndrome: sum,
-                odd: bits::odd(word),
             };
         }
         return Scanned {
             bad: bits::first_bad(word, head) as u32,
             syndrome: group::zero(0, 0),
-            odd: false,
         };
     }
     Scanned {
         bad: bits::first_bad(word, 0) as u32,
         syndrome: group::zero(0, 0),
-        odd: false,
     }
 }
 
@@ -109,7 +107,7 @@ pub fn encode(t: u32, r: u32, s: u32, message: &[u8], out: &mut [u8]) -> u32
 fn encode_fit(t: u32, r: u32, d: usize, message: &[u8], out: &mut [u8]) -> u32
     requires { Fits t r d (message_of t) (length message.now) × (places_of t - d ≤ length out.old) }
     ensures bad { result ≡ bad_from 1 message.now }
-    ensures bytes { out.new ≡ written (bad_from 1 message.now == 0) (places_of t - d) (shortened_encode (moduli_for t r) d message.now) out.old }
+    ensures bytes { out.new ≡ written (eqb (bad_from 1 message.now) 0) (places_of t - d) (shortened_encode (moduli_for t r) d message.now) out.old }
 {
     let h = parameters::shape_of(t, r);
     let a = h.a;

@@ -2,7 +2,7 @@
 use group::Element;
 
 // Whether its bytes are 0 or 1, and then its part of the syndrome.
-#[derive(Drop)]
+#[derive(Clone, Copy)]
 pub struct Part {
     pub good: bool,
     pub sum: Element,

@@ -1,6 +1,8 @@
 // Two words combined by the group law, place by place. Every input is answered: nothing is written
 // where t and r are not admitted, s is not allowed, a word is not of its length, or the output is too
 // short (crate shortened_theory, specs/Calls.antt).
+#![tactic(auto)]
+
 mod sums;
 
 ghost use Rattle.std.specs.Prelude.{◌≡◌};

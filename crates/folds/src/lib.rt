@@ -4,6 +4,8 @@
 // other can be taken off: what the blocks add to it is a sum of totals, and the weights that are left
 // are sums of blocks. Every loop runs over neighbouring bytes, so that the compiler makes vector code
 // of it.
+#![tactic(auto)]
+
 ghost use Rattle.std.specs.Prelude.{◌≡◌, ◌+◌, ◌*◌, ◌%◌, ◌^◌, ◌<◌, ◌≤◌, ◌++◌, length, take, drop, nat_le};
 ghost use Rattle.std.proofs.Math.Seq.{paste};
 ghost use Rattle.group_theory.specs.Group.{moduli, size};

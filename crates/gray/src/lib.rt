@@ -1,5 +1,7 @@
 // The Gray map: the digit of two places, and the two places of a digit (crate words_theory,
 // specs/Digits.antt).
+#![tactic(auto)]
+
 ghost use Rattle.std.specs.Prelude.{◌≡◌, [], ◌<◌, ◌≤◌};
 ghost use Rattle.group_theory.specs.Group.{hd, tl};
 ghost use Rattle.words_theory.specs.Digits as digits;

@@ -2,6 +2,8 @@
 // others unused and 0. Every function answers for every input: a component out of range counts by
 // its remainder. What each one means is in crate group_theory, specs/, its laws in proofs/Laws.antt and
 // Numbers.antt. Callers rely on those laws and not on how the sums are made.
+#![tactic(auto)]
+
 ghost use Rattle.std.specs.Prelude.{◌≡◌, ◌<◌, get_or};
 ghost use Rattle.group_theory.specs.Group.{one, radix, moduli, zeros, sum, negative, times, number};
 ghost use Rattle.group_theory.specs.Sign.{all_zero, first_of};

@@ -2,6 +2,8 @@
 // admitted, up to 4,095 places, rounds of calls on drawn words, and rounds in some of its shortened codes;
 // then every word of the short codes. The file `stdout` beside src/ was written by a second program, which
 // shares no code with the engine: that this program prints the same text is the check.
+#![tactic(auto)]
+
 mod alter;
 mod digest;
 mod draw;

@@ -2,6 +2,8 @@
 // element's index among those of its sign follows from its digits, and the other way round (descent.rt),
 // and the units before it are left out (skip.rt). What the two answer is defined in crate layout_theory,
 // specs/Layout.antt and Calls.antt; why the way there is right is crate blocks_theory.
+#![tactic(auto)]
+
 mod descent;
 mod skip;
 

@@ -1,8 +1,9 @@
 // Theory of the parameters and of the layout of places. Definitions are in specs/, theorems in
 // proofs/; there is no function here.
+#![tactic(auto)]
 
 // The numbers of document 01's "Parameters"; every field is 0 where t and r are not admitted.
-#[derive(Drop)]
+#[derive(Clone, Copy)]
 pub struct Shape {
     // a and b: the components modulo 2 and those modulo 4
     pub a: usize,

@@ -3,6 +3,8 @@
 //
 // Nothing is required of a caller. The text goes into a buffer of the caller's as far as it fits,
 // and the answer is the length of the whole text, so that a caller sees whether all was written.
+#![tactic(auto)]
+
 mod read;
 mod write;
 

@@ -16,7 +16,6 @@ use Rattle.layout_theory.specs.Parameters.{places_of, message_of, binary_of, qua
 use Rattle.layout_theory.specs.Calls.{shape_for}
 use Rattle.layout_theory.specs.declared.Shape.{Shape}
 use Rattle.layout_theory.proofs.Parameters.{Known, known-for, moduli-known, zeros-for}
-use Rattle.words_theory.specs.Words.{is_odd}
 use Rattle.words_theory.specs.Calls as calls
 use Rattle.words_theory.specs.Calls.{bad_from}
 use Rattle.shortened_theory.specs.Code.{fill, shortened_syndrome, shortened_encode, shortened_combine, shortened_inverse}
@@ -70,23 +69,22 @@ module _ (t r s : ℕ) (w : List ℕ) where
   unfolding shortened_syndrome_for
   syndrome-fits y = rw y
 
-  pub scan-none : fits_word t r s (length w) ≡ false → record { bad = 0; syndrome = zeros (moduli 0 0); odd = false } ≡ scanned_for t r s w
+  pub scan-none : fits_word t r s (length w) ≡ false → record { bad = 0; syndrome = zeros (moduli 0 0) } ≡ scanned_for t r s w
   unfolding scanned_for
   scan-none y = go (eqb (bad_from 1 w) 0) refl
     where
-      go : (b : Bool) → eqb (bad_from 1 w) 0 ≡ b → record { bad = 0; syndrome = zeros (moduli 0 0); odd = false } ≡ scanned_for t r s w
+      go : (b : Bool) → eqb (bad_from 1 w) 0 ≡ b → record { bad = 0; syndrome = zeros (moduli 0 0) } ≡ scanned_for t r s w
       go true e = rw (y, e, ← syndrome-none y)
       go false e = rw (y, e, zeros-for 0 0 (binary_of t r) (quaternary_of t r))
 
   module _ (y : fits_word t r s (length w) ≡ true) where
-    pub scan-bad : (b : ℕ) → b ≡ bad_from 1 w → bad_from 1 w ≢ 0 → record { bad = b; syndrome = zeros (moduli 0 0); odd = false } ≡ scanned_for t r s w
+    pub scan-bad : (b : ℕ) → b ≡ bad_from 1 w → bad_from 1 w ≢ 0 → record { bad = b; syndrome = zeros (moduli 0 0) } ≡ scanned_for t r s w
     unfolding scanned_for
     scan-bad b e n = rw (y, e, ne_eqb (bad_from 1 w) 0 n, zeros-for 0 0 (binary_of t r) (quaternary_of t r))
 
-    pub scan_good : (x : List ℕ) (o : Bool) → bad_from 1 w ≡ 0 → x ≡ shortened_syndrome (moduli_for t r) s w → o ≡ is_odd w
-        → record { bad = 0; syndrome = x; odd = o } ≡ scanned_for t r s w
+    pub scan_good : (x : List ℕ) → bad_from 1 w ≡ 0 → x ≡ shortened_syndrome (moduli_for t r) s w → record { bad = 0; syndrome = x } ≡ scanned_for t r s w
     unfolding scanned_for
-    scan_good x o z e f = rw (y, z, e ∙ syndrome-fits y, f)
+    scan_good x z e = rw (y, z, e ∙ syndrome-fits y)
 
 -- ---- outputs
 -- nothing is written where a test of what is read says no, or there is no room

@@ -2,6 +2,8 @@
 // and r, the numbers of their code, whether so many bytes are a word or a message or have room for one,
 // and whether a number is a place. What these answer is defined in crate layout_theory,
 // specs/Parameters.antt and Calls.antt, and in crate shortened_theory, specs/Calls.antt.
+#![tactic(auto)]
+
 ghost use Rattle.std.specs.Prelude.{◌≡◌, ◌&&◌, leb, ltb, ◌-◌};
 ghost use Rattle.layout_theory.specs.Parameters.{admits, places_of};
 ghost use Rattle.layout_theory.specs.Calls.{or_hamming, shape_for};

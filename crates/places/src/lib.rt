@@ -3,6 +3,8 @@
 // or nothing written, where t and r are not admitted, s is not allowed, a place is none of the code's, or a
 // word or an output is too short. What each function answers is defined in crates words_theory and
 // shortened_theory, specs/Calls.antt.
+#![tactic(auto)]
+
 mod halves;
 mod ones;
 mod place;

@@ -1,4 +1,6 @@
 // Prints the sheet of the code that a line of standard input names.
+#![tactic(auto)]
+
 use libc::{STDIN_FILENO, STDOUT_FILENO};
 
 fn main() {

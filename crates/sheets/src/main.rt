@@ -1,5 +1,7 @@
 // Sheets for lines good and bad, one after the other: document 01's form of the input, executed. Of the longest
 // sheets only the front and the length are printed; `make check-sheet` compares all of them.
+#![tactic(auto)]
+
 fn show(line: &[u8]) {
     let mut text = io::large_buffer();
     let n = listing::sheet(line, &mut text);

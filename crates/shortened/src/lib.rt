@@ -2,6 +2,8 @@
 // places are renumbered from 1. Here they are asked for by their old numbers: which are left out, which are
 // binary or of a pair, and the third place of two. Every input is answered; 0 where t and r are not admitted,
 // s is not allowed, or a place is none of the code's (crate shortened_theory, specs/Calls.antt).
+#![tactic(auto)]
+
 ghost use Rattle.std.specs.Prelude.{◌≡◌};
 ghost use Rattle.shortened_theory.specs.Code.{is_left_out};
 ghost use Rattle.shortened_theory.specs.Calls.{shortened_width_for, shortened_third_for};

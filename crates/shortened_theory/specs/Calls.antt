@@ -4,7 +4,6 @@ use Rattle.std.specs.Prelude.{◌≡◌, Bool, ◌&&◌, not, List, ℕ, ◌+◌
 use Rattle.group_theory.specs.Group.{zeros}
 use Rattle.layout_theory.specs.Choice.{pick}
 use Rattle.layout_theory.specs.Parameters.{Admitted, admits, places_of, message_of, moduli_for}
-use Rattle.words_theory.specs.Words.{is_odd}
 use Rattle.words_theory.specs.Calls.{bad_from, fault_at, fault, written}
 use Rattle.shortened_theory.specs.Allowed.{Allowed, allows}
 use Rattle.shortened_theory.specs.declared.Scanned.{Scanned}
@@ -30,13 +29,12 @@ pub record Fits (t r s n k : ℕ) : Type 0 where
 unfoldable pub shortened_syndrome_for : ℕ → ℕ → ℕ → List ℕ → List ℕ
 shortened_syndrome_for t r s w = pick (fits_word t r s (length w)) (shortened_syndrome (moduli_for t r) s w) (zeros (moduli_for t r))
 
--- what one pass over a word finds: the lowest place of a byte above 1, or 0, the syndrome, and whether the number of ones is odd
+-- what one pass over a word finds: the lowest place of a byte above 1, or 0 and the syndrome
 unfoldable pub scanned_for : ℕ → ℕ → ℕ → List ℕ → Scanned
 scanned_for t r s w =
     record {
       bad = pick (fits_word t r s (length w)) (bad_from 1 w) 0;
       syndrome = pick (eqb (bad_from 1 w) 0) (shortened_syndrome_for t r s w) (zeros (moduli_for t r));
-      odd = fits_word t r s (length w) && (eqb (bad_from 1 w) 0 && is_odd w);
     }
 
 -- the place at fault in the filled word, by its old number; of a word of syndrome e

@@ -5,6 +5,8 @@
 // This is a crate of its own, not part of crate timed: there the pass over a word has one caller, correction,
 // and a second one, asking, would change how `coder::correct` is compiled, and so the figures of request C-14's
 // benchmark.
+#![tactic(auto)]
+
 ghost use Rattle.std.specs.Prelude.{◌≡◌};
 ghost use Rattle.coder_theory.specs.Calls.{correct_answer, correct_output, ask_answer, commit_answer, commit_output};
 

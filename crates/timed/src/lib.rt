@@ -2,6 +2,8 @@
 // was. Both have one shape and one contract, that of `coder::correct`, for every input, so the benchmark
 // can compare all that they tell and write. In C a slice is a pointer and a length, and the structs are
 // those of crate coder_theory, by value. The caller keeps the output apart from the word.
+#![tactic(auto)]
+
 ghost use Rattle.std.specs.Prelude.{◌≡◌};
 ghost use Rattle.coder_theory.specs.Calls.{correct_answer, correct_output};
 

@@ -3,6 +3,8 @@
 // and the contract is that of `coder::correct`. What is wrong with a call is found by crate checks and
 // bytes.rt; shorter.rt finds the place at fault, by whole.rt and what is named there; the flip is crate coding's;
 // count.rt counts.
+#![tactic(auto)]
+
 mod bytes;
 mod check_part;
 mod count;

@@ -3,6 +3,8 @@
 // answers and writes is defined in crate z2z4_theory, specs/Calls.antt; that it is the coder's call is a
 // theorem there. In C a slice is a pointer and a length (include/z2z4.h). The caller keeps an output
 // apart from what is read.
+#![tactic(auto)]
+
 ghost use Rattle.std.specs.Prelude.{◌≡◌, ◌<◌, ◌^◌};
 ghost use Rattle.z2z4_theory.specs.Calls.{signed, opened_for_c, encode_answer_for_c, encode_output_for_c, correct_answer_for_c, correct_output_for_c, combine_answer_for_c, combine_output_for_c, third_answer_for_c};
 

@@ -1,5 +1,10 @@
 -- `coding::scan_fit` meets its contract: the syndrome, or the lowest place of a byte above 1. Assumes nothing.
-use Rattle.std.proofs.Common.{◌≡◌, ℕ, ◌≤◌, Bool, length, sym, subst, arith, rules}
+use borrow.Author.Rules.{rules}
+use mathlib.Core.Path.{◌≡◌, sym, subst}
+use mathlib.Core.Bool.{Bool}
+use Prim.Native.Nat.{ℕ, ◌≤◌}
+use native.Mathlib.Omega.{arith}
+use lib.ListN.{length}
 use Rattle.layout_theory.specs.Parameters.{places_of}
 use Rattle.shortened_theory.specs.Calls.{Fits}
 use Rattle.shortened_theory.proofs.Guards.{word_fits}
@@ -39,20 +44,17 @@ pass-requires c κs = let k = tested c in (fits c.before.before.before.before, k
 
 returns : tie.Need-returns
 returns c =
-    let q = c.before.before.before in
-    let y = c.before.before.if2.true in
+    let q = c.before.before in
+    let y = c.before.if2.true in
     let b = q.before.before.before.before.before in
     let w = b.args.word.now in
-    scan_good _ _ _ w b.requires _ _ (bits-zero w (told q _ y)) (q.pass.ensures.1 y) c.odd.ensures
-
-odd-requires : tie.Need-odd-requires
-odd-requires c κs = search rules
+    scan_good _ _ _ w b.requires _ (bits-zero w (told q _ y)) (q.pass.ensures.1 y)
 
 first-bad-requires : tie.Need-first-bad-requires
 first-bad-requires c κs = tested c.before.before
 
-cast-t13 : tie.Need-overflow-cast-t13
-cast-t13 c =
+cast-t12 : tie.Need-overflow-cast-t12
+cast-t12 c =
     let b = c.before.before.before.before.before.before.before in
     let h = bad-small _ _ _ _ b.args.word.now (fits b) (omega arith) _ c.first-bad.ensures in
     search rules
@@ -71,8 +73,8 @@ returns-2 c =
 first-bad-requires-2 : tie.Need-first-bad-requires-2
 first-bad-requires-2 c κs = (omega arith, λ i h l. absurd (omega arith))
 
-cast-t16 : tie.Need-overflow-cast-t16
-cast-t16 c =
+cast-t15 : tie.Need-overflow-cast-t15
+cast-t15 c =
     let b = c.before.before.before.before in
     let h = bad-small _ _ _ _ b.args.word.now (fits b) (omega arith) _ c.first-bad2.ensures in
     search rules
@@ -95,13 +97,12 @@ scan-fit-spec =
     front-requires
     head-requires
     pass-requires
-    odd-requires
     returns
     first-bad-requires
-    cast-t13
+    cast-t12
     zero-requires
     returns-2
     first-bad-requires-2
-    cast-t16
+    cast-t15
     zero-requires-2
     returns-3)
