@@ -5,8 +5,7 @@ use Prim.Native.Nat.{ℕ, zero, suc, ◌<◌, ◌≤◌}
 use native.Mathlib.Omega.{arith}
 use Rattle.group_theory.specs.Group.{hd}
 use Rattle.words_theory.specs.Digits.{gray}
-use Rattle.gray.proofs.first_half.Statement.{statement}
-use Rattle.gray.proofs.first_half.Tie as tie
+use Rattle.gray.proofs.first_half.Goals as goal
 
 small : (d : ℕ) → d < 2 → 0 ≡ hd (gray d [])
 small zero h = refl
@@ -19,11 +18,8 @@ large (suc zero) h = absurd (omega arith)
 large (suc (suc zero)) h = refl
 large (suc (suc (suc d))) h = refl
 
-returns : tie.Need-returns
-returns c = small _ c.if1.true
+pub returns-then-d-lt2 : goal.returns-then-d-lt2
+returns-then-d-lt2 c = small _ c.if-d-lt2.true
 
-returns-2 : tie.Need-returns-2
-returns-2 c = large _ c.if1.false
-
-pub first-half-spec : {M : Type 1} → statement M
-first-half-spec = tie.close (tie.spec returns returns-2)
+pub returns : goal.returns
+returns c = large _ c.if-d-lt2.false

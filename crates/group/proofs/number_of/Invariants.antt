@@ -1,0 +1,12 @@
+-- What the loop of `group::number_of` keeps true.
+use mathlib.Core.Path.{◌≡◌}
+use Prim.Native.Nat.{◌≤◌}
+use lib.ListN.{drop}
+use Rattle.group_theory.specs.Group.{moduli, number}
+use Rattle.group.proofs.number_of.Given as goal
+
+abbrev pub invariant-loop-i : goal.invariant-loop-i
+invariant-loop-i l = (l.i ≤ 12) × (l.n ≡ number (drop l.i (moduli l.a l.b)) (drop l.i l.x))
+
+abbrev pub decreases-loop-i : goal.decreases-loop-i
+decreases-loop-i l = l.i
