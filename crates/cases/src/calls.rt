@@ -5,6 +5,7 @@ use crate::fields::{is_of, until};
 use crate::lines::Turn;
 use crate::numbers::Given;
 use crate::print::{corrected, element, number, opened, shown, tested, told, wrote};
+use std::io;
 
 // How many forms of a list, each ended by a semicolon, come before the one that a line has; all of them where it
 // has none.
@@ -24,7 +25,14 @@ fn form(line: &[u8], forms: &[u8]) -> u32 {
 }
 
 // Calls without a word.
-pub(crate) fn answer(line: &[u8], g: Given, first: &[u8], second: &[u8], out: &mut [u8]) -> Turn {
+pub(crate) fn answer(
+    rt: &impl Print,
+    line: &[u8],
+    g: Given,
+    first: &[u8],
+    second: &[u8],
+    out: &mut [u8],
+) -> io::Result<Turn> {
     match form(
         line,
         b"open 0 0 0;\
@@ -33,17 +41,24 @@ pub(crate) fn answer(line: &[u8], g: Given, first: &[u8], second: &[u8], out: &m
         message_length ();\
         third_place () 0 0;",
     ) {
-        0 => opened(coder::open(g.one, g.two, g.three)),
-        1 => element(coder::element_at(g.record, g.two)),
-        2 => number(coder::word_length(g.record)),
-        3 => number(coder::message_length(g.record)),
-        4 => told(coder::third_place(g.record, g.two, g.three)),
-        _ => on_word(line, g, first, second, out),
+        0 => opened(rt, coder::open(g.one, g.two, g.three)),
+        1 => element(rt, coder::element_at(g.record, g.two)),
+        2 => number(rt, coder::word_length(g.record)),
+        3 => number(rt, coder::message_length(g.record)),
+        4 => told(rt, coder::third_place(g.record, g.two, g.three)),
+        _ => on_word(rt, line, g, first, second, out),
     }
 }
 
 // Calls that read a word.
-fn on_word(line: &[u8], g: Given, first: &[u8], second: &[u8], out: &mut [u8]) -> Turn {
+fn on_word(
+    rt: &impl Print,
+    line: &[u8],
+    g: Given,
+    first: &[u8],
+    second: &[u8],
+    out: &mut [u8],
+) -> io::Result<Turn> {
     match form(
         line,
         b"syndrome () [];\
@@ -51,16 +66,23 @@ fn on_word(line: &[u8], g: Given, first: &[u8], second: &[u8], out: &mut [u8]) -
         read_message () [];\
         ask () [];",
     ) {
-        0 => element(coder::syndrome(g.record, first)),
-        1 => tested(coder::is_codeword(g.record, first)),
-        2 => shown(coder::read_message(g.record, first)),
-        3 => told(coder::ask(g.record, first)),
-        _ => with_output(line, g, first, second, out),
+        0 => element(rt, coder::syndrome(g.record, first)),
+        1 => tested(rt, coder::is_codeword(g.record, first)),
+        2 => shown(rt, coder::read_message(g.record, first)),
+        3 => told(rt, coder::ask(g.record, first)),
+        _ => with_output(rt, line, g, first, second, out),
     }
 }
 
 // Calls that write an output; to commit it is the word itself.
-fn with_output(line: &[u8], g: Given, first: &[u8], second: &[u8], out: &mut [u8]) -> Turn {
+fn with_output(
+    rt: &impl Print,
+    line: &[u8],
+    g: Given,
+    first: &[u8],
+    second: &[u8],
+    out: &mut [u8],
+) -> io::Result<Turn> {
     match form(
         line,
         b"encode () [] {};\
@@ -69,11 +91,11 @@ fn with_output(line: &[u8], g: Given, first: &[u8], second: &[u8], out: &mut [u8
         invert () [] {};\
         commit () 0 {};",
     ) {
-        0 => wrote(coder::encode(g.record, first, out), out),
-        1 => corrected(coder::correct(g.record, first, out), out),
-        2 => wrote(coder::combine(g.record, first, second, out), out),
-        3 => wrote(coder::invert(g.record, first, out), out),
-        4 => corrected(coder::commit(g.record, g.two, out), out),
-        _ => Turn::Malformed,
+        0 => wrote(rt, coder::encode(g.record, first, out), out),
+        1 => corrected(rt, coder::correct(g.record, first, out), out),
+        2 => wrote(rt, coder::combine(g.record, first, second, out), out),
+        3 => wrote(rt, coder::invert(g.record, first, out), out),
+        4 => corrected(rt, coder::commit(g.record, g.two, out), out),
+        _ => Ok(Turn::Malformed),
     }
 }

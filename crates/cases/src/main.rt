@@ -11,22 +11,20 @@ mod print;
 mod words;
 
 use crate::lines::Turn;
+use std::io;
 
-fn main() {
+fn main(rt: HostRuntime) -> io::Result<()> {
+    let mut input = rt.stdin();
     let mut last = numbers::closed();
-    let mut number: u32 = 1;
     // Nothing says that the input ends: the count of lines has to.
-    while number < 4294967295 {
-        match lines::next(last) {
+    for number in 1..u32::MAX {
+        match lines::next(&rt, &mut input, last)? {
             Turn::Returned(record) => last = record,
             Turn::Answered => (),
-            Turn::Malformed => {
-                print::malformed(number);
-                return;
-            }
-            Turn::End => return,
+            Turn::Malformed => return print::malformed(&rt, number),
+            Turn::End => return Ok(()),
         }
-        print::text(b"\n");
-        number += 1;
+        println!(rt)?;
     }
+    Ok(())
 }

@@ -4,8 +4,9 @@
 // refusals, the places told and every byte of the outputs.
 use crate::alter::front;
 use crate::digest::{count, fold, fold_bytes};
-use crate::lines::{counts, number, text};
+use crate::lines::counts;
 use coder::Record;
+use std::io;
 
 // What came of the words so far.
 #[derive(Drop)]
@@ -15,46 +16,38 @@ struct Seen {
     digest: u32,
 }
 
-pub(crate) fn words() {
-    with_each_s(2, 1);
-    with_each_s(3, 2);
-    with_each_s(4, 2);
-    with_each_s(4, 3);
-    with_each_s(4, 4);
+pub(crate) fn words(rt: &impl Print) -> io::Result<()> {
+    with_each_s(rt, 2, 1)?;
+    with_each_s(rt, 3, 2)?;
+    with_each_s(rt, 4, 2)?;
+    with_each_s(rt, 4, 3)?;
+    with_each_s(rt, 4, 4)
 }
 
-fn with_each_s(t: u32, r: u32) {
-    let mut s: u32 = 0;
-    while s <= 15 {
-        open(coder::open(t, r, s).record);
-        s += 1;
+fn with_each_s(rt: &impl Print, t: u32, r: u32) -> io::Result<()> {
+    for s in 0..16 {
+        open(rt, coder::open(t, r, s).record)?;
     }
+    Ok(())
 }
 
 // A refused opening gives the closed record, which has no places.
-fn open(code: Record) {
+fn open(rt: &impl Print, code: Record) -> io::Result<()> {
     let n = coder::word_length(code);
     if n == 0 {
-        return;
+        return Ok(());
     }
     if n <= 12 {
-        line(code, n);
+        return line(rt, code, n);
     }
+    Ok(())
 }
 
-fn line(code: Record, n: u32) {
+fn line(rt: &impl Print, code: Record, n: u32) -> io::Result<()> {
     let seen = each(code, n);
-    text(b"every");
-    number(code.t);
-    number(code.r);
-    number(code.s);
-    number(n);
-    counts(seen.record);
-    text(b" refused");
-    number(seen.refused);
-    text(b" digest");
-    number(seen.digest);
-    text(b"\n");
+    print!(rt; "every {} {} {} {n}", code.t, code.r, code.s)?;
+    counts(rt, seen.record)?;
+    println!(rt; " refused {} digest {}", seen.refused, seen.digest)
 }
 
 // All words of n places, n at most 12; the remainder spares a proof of it.

@@ -6,6 +6,7 @@ ghost use Rattle.std.specs.Prelude.{◌<◌};
 
 use crate::alter::{all, at, front};
 use coder::{Answer, Corrected, Opened, Record};
+use std::io;
 
 // The calls that write an output.
 #[derive(Drop)]
@@ -14,15 +15,6 @@ enum Call {
     Correct,
     Combine,
     Inverse,
-}
-
-pub(crate) fn text(s: &[u8]) {
-    io::write_all(1, s);
-}
-
-pub(crate) fn number(n: u32) {
-    text(b" ");
-    io::print_decimal(1, n as u64);
 }
 
 // The place in an answer of a C call; 0 for none, and in a refusal.
@@ -55,25 +47,21 @@ fn taken(a: i32) -> Answer {
 }
 
 // The answer as C has it, and after it the place in a refusal, which C is not told.
-fn told(refusal: u32, place: u32) {
+fn told(rt: &impl Print, refusal: u32, place: u32) -> io::Result<()> {
     if refusal == 0 {
-        number(place);
-        return;
+        return print!(rt; " {place}");
     }
-    text(b" -");
-    io::print_decimal(1, refusal as u64);
-    if place != 0 {
-        text(b" at");
-        number(place);
+    if place == 0 {
+        return print!(rt; " -{refusal}");
     }
+    print!(rt; " -{refusal} at {place}")
 }
 
-pub(crate) fn counts(code: Record) {
-    text(b" counts");
-    number(code.words);
-    number(code.clean);
-    number(code.corrected_binary);
-    number(code.corrected_pairs);
+pub(crate) fn counts(rt: &impl Print, code: Record) -> io::Result<()> {
+    print!(rt;
+        " counts {} {} {} {}",
+        code.words, code.clean, code.corrected_binary, code.corrected_pairs
+    )
 }
 
 // The digit of the four places from index i on, the earlier place the higher bit. The remainders change
@@ -98,7 +86,7 @@ fn letter(v: u8) -> u8
 }
 
 // A word in hexadecimal. No word has more than the 4,096 places of 1,024 digits.
-fn hex(w: &[u8]) {
+fn hex(rt: &impl Print, w: &[u8]) -> io::Result<()> {
     let mut digits = [0u8; 1024];
     let mut i: usize = 0;
     while i < 1024 {
@@ -108,41 +96,42 @@ fn hex(w: &[u8]) {
         digits[i] = hex_digit(w, 4 * i);
         i += 1;
     }
-    text(b" ");
-    text(front(&digits, i));
+    print!(rt; " ")?;
+    rt.write_all(front(&digits, i))
 }
 
 // What an accepted call must have written: n places, and nothing after them.
-fn written(out: &[u8], n: usize) {
-    hex(front(out, n));
+fn written(rt: &impl Print, out: &[u8], n: usize) -> io::Result<()> {
+    hex(rt, front(out, n))?;
     if !all(out, n, 7) {
-        text(b" altered");
+        return print!(rt; " altered");
     }
+    Ok(())
 }
 
 // What a refused call must have written: nothing.
-fn kept(out: &[u8]) {
+fn kept(rt: &impl Print, out: &[u8]) -> io::Result<()> {
     if all(out, 0, 7) {
-        text(b" untouched");
+        print!(rt; " untouched")
     } else {
-        text(b" altered");
+        print!(rt; " altered")
     }
 }
 
 // The answer and the output of a call, and the counts where it counted: no code's record has any before.
-fn outcome(code: Record, a: Corrected, out: &[u8]) {
+fn outcome(rt: &impl Print, code: Record, a: Corrected, out: &[u8]) -> io::Result<()> {
     let refusal = a.refusal;
     let after = a.record;
-    told(refusal, a.place);
+    told(rt, refusal, a.place)?;
     if refusal == 0 {
-        written(out, coder::word_length(code) as usize);
+        written(rt, out, coder::word_length(code) as usize)?;
     } else {
-        kept(out);
+        kept(rt, out)?;
     }
     if after.words != 0 {
-        counts(after);
+        counts(rt, after)?;
     }
-    text(b"\n");
+    println!(rt)
 }
 
 fn called(call: Call, code: Record, first: &[u8], second: &[u8], out: &mut [u8]) -> Corrected {
@@ -183,61 +172,86 @@ fn same(code: Record, a: Answer) -> Corrected {
     }
 }
 
-fn write(call: Call, code: Record, first: &[u8], second: &[u8], out: &mut [u8]) {
+fn write(
+    rt: &impl Print,
+    call: Call,
+    code: Record,
+    first: &[u8],
+    second: &[u8],
+    out: &mut [u8],
+) -> io::Result<()> {
     let a = called(call, code, first, second, out);
-    outcome(code, a, out);
+    outcome(rt, code, a, out)
 }
 
 // With an output of its own, that is not looked at again.
-fn write_away(call: Call, code: Record, first: &[u8], second: &[u8], room: usize) {
+fn write_away(
+    rt: &impl Print,
+    call: Call,
+    code: Record,
+    first: &[u8],
+    second: &[u8],
+    room: usize,
+) -> io::Result<()> {
     let mut out = [7u8; 4097];
     if room <= out.len() {
-        write(call, code, first, second, &mut out[..room]);
+        return write(rt, call, code, first, second, &mut out[..room]);
     }
+    Ok(())
 }
 
 // With an output that the caller keeps.
-pub(crate) fn encode_to(code: Record, message: &[u8], out: &mut [u8]) {
-    text(b"encode");
-    write(Call::Encode, code, message, message, out);
+pub(crate) fn encode_to(
+    rt: &impl Print,
+    code: Record,
+    message: &[u8],
+    out: &mut [u8],
+) -> io::Result<()> {
+    print!(rt; "encode")?;
+    write(rt, Call::Encode, code, message, message, out)
 }
 
-pub(crate) fn encode(code: Record, message: &[u8], room: usize) {
-    text(b"encode");
-    write_away(Call::Encode, code, message, message, room);
+pub(crate) fn encode(rt: &impl Print, code: Record, message: &[u8], room: usize) -> io::Result<()> {
+    print!(rt; "encode")?;
+    write_away(rt, Call::Encode, code, message, message, room)
 }
 
-pub(crate) fn correct(code: Record, word: &[u8], room: usize) {
-    text(b"correct");
-    write_away(Call::Correct, code, word, word, room);
+pub(crate) fn correct(rt: &impl Print, code: Record, word: &[u8], room: usize) -> io::Result<()> {
+    print!(rt; "correct")?;
+    write_away(rt, Call::Correct, code, word, word, room)
 }
 
-pub(crate) fn combine(code: Record, first: &[u8], second: &[u8], room: usize) {
-    text(b"combine");
-    write_away(Call::Combine, code, first, second, room);
+pub(crate) fn combine(
+    rt: &impl Print,
+    code: Record,
+    first: &[u8],
+    second: &[u8],
+    room: usize,
+) -> io::Result<()> {
+    print!(rt; "combine")?;
+    write_away(rt, Call::Combine, code, first, second, room)
 }
 
-pub(crate) fn inverse(code: Record, word: &[u8], room: usize) {
-    text(b"inverse");
-    write_away(Call::Inverse, code, word, word, room);
+pub(crate) fn inverse(rt: &impl Print, code: Record, word: &[u8], room: usize) -> io::Result<()> {
+    print!(rt; "inverse")?;
+    write_away(rt, Call::Inverse, code, word, word, room)
 }
 
 // The message that is read, its length before it.
-pub(crate) fn read(code: Record, word: &[u8]) {
+pub(crate) fn read(rt: &impl Print, code: Record, word: &[u8]) -> io::Result<()> {
     let m = coder::read_message(code, word);
-    text(b"read ");
-    io::print_decimal(1, m.len() as u64);
+    print!(rt; "read {}", m.len())?;
     if 0 < m.len() {
-        hex(m);
+        hex(rt, m)?;
     }
-    text(b"\n");
+    println!(rt)
 }
 
-pub(crate) fn third(code: Record, i: u32, j: u32) {
+pub(crate) fn third(rt: &impl Print, code: Record, i: u32, j: u32) -> io::Result<()> {
     let a = third_of(code, i, j);
-    text(b"third");
-    told(a.refusal, a.place);
-    text(b"\n");
+    print!(rt; "third")?;
+    told(rt, a.refusal, a.place)?;
+    println!(rt)
 }
 
 fn third_of(code: Record, i: u32, j: u32) -> Answer {
@@ -249,43 +263,34 @@ fn third_of(code: Record, i: u32, j: u32) -> Answer {
 }
 
 // What an opening gave: t, the r in force, s and the lengths, or the refusal.
-pub(crate) fn opening(t: u32, r: u32, s: u32, o: Opened) {
-    text(b"open");
-    number(t);
-    number(r);
-    number(s);
+pub(crate) fn opening(rt: &impl Print, t: u32, r: u32, s: u32, o: Opened) -> io::Result<()> {
+    print!(rt; "open {t} {r} {s}")?;
     let refusal = o.refusal;
     if refusal == 0 {
-        lengths(o.record);
+        lengths(rt, o.record)?;
     } else {
-        text(b" refused");
-        number(refusal);
+        print!(rt; " refused {refusal}")?;
     }
-    text(b"\n");
+    println!(rt)
 }
 
-fn lengths(code: Record) {
-    text(b" code");
-    number(code.t);
-    number(code.r);
-    number(code.s);
-    number(coder::word_length(code));
-    number(coder::message_length(code));
+fn lengths(rt: &impl Print, code: Record) -> io::Result<()> {
+    print!(rt;
+        " code {} {} {} {} {}",
+        code.t,
+        code.r,
+        code.s,
+        coder::word_length(code),
+        coder::message_length(code)
+    )
 }
 
-pub(crate) fn syndrome(code: Record, word: &[u8]) {
+pub(crate) fn syndrome(rt: &impl Print, code: Record, word: &[u8]) -> io::Result<()> {
     let a = coder::syndrome(code, word);
-    text(b"syndrome");
-    number(a.refusal);
-    number(a.place);
-    number(a.element);
-    text(b"\n");
+    println!(rt; "syndrome {} {} {}", a.refusal, a.place, a.element)
 }
 
-pub(crate) fn element(code: Record, place: u32) {
+pub(crate) fn element(rt: &impl Print, code: Record, place: u32) -> io::Result<()> {
     let a = coder::element_at(code, place);
-    text(b"element");
-    number(a.refusal);
-    number(a.element);
-    text(b"\n");
+    println!(rt; "element {} {}", a.refusal, a.element)
 }

@@ -17,54 +17,52 @@ ghost use Rattle.std.specs.Prelude.{◌≤◌};
 
 use crate::round::buffered;
 use coder::Record;
+use std::io;
 
-fn main() {
-    let mut t: u32 = 0;
-    while t <= 13 {
-        with_each_r(t);
-        t += 1;
+fn main(rt: HostRuntime) -> io::Result<()> {
+    for t in 0..14 {
+        with_each_r(&rt, t)?;
     }
-    every::words();
+    every::words(&rt)
 }
 
-fn with_each_r(t: u32)
+fn with_each_r(rt: &impl Print, t: u32) -> io::Result<()>
     requires { t ≤ 13 }
 {
-    let mut r: u32 = 0;
-    while r <= 14 {
-        open(t, r);
-        r += 1;
+    for r in 0..15 {
+        open(rt, t, r)?;
     }
+    Ok(())
 }
 
 // The bounds keep the state that the rounds start from within its type.
-fn open(t: u32, r: u32)
+fn open(rt: &impl Print, t: u32, r: u32) -> io::Result<()>
     requires { (t ≤ 13) × (r ≤ 14) }
 {
-    openings::with_each_s(t, r);
+    openings::with_each_s(rt, t, r)?;
     let o = coder::open(t, r, 0);
-    lines::opening(t, r, 0, o);
+    lines::opening(rt, t, r, 0, o)?;
     // By the call for C, to which r = 0 is r = t.
-    lines::third(openings::made(t, r, 0), 1, 2);
+    lines::third(rt, openings::made(t, r, 0), 1, 2)?;
     // r = 0 opens a code whose rounds come under the r in force.
     if r == 0 {
-        return;
+        return Ok(());
     }
     if o.refusal == 0 {
-        rounds(o.record, 1 + 100 * t + r);
+        return rounds(rt, o.record, 1 + 100 * t + r);
     }
+    Ok(())
 }
 
 // Three rounds of a code and three drawn s; with t = 11 and 12, whose words are long, one of each, so that the
 // whole text can still be read.
-fn rounds(code: Record, start: u32) {
+fn rounds(rt: &impl Print, code: Record, start: u32) -> io::Result<()> {
     let t = code.t;
-    let x = buffered(code, start);
+    let x = buffered(rt, code, start)?;
     if 10 < t {
-        shorter::rounds(code, 10, x);
-        return;
+        return shorter::rounds(rt, code, 10, x);
     }
-    let y = buffered(code, x);
-    let z = buffered(code, y);
-    shorter::rounds(code, 12, z);
+    let y = buffered(rt, code, x)?;
+    let z = buffered(rt, code, y)?;
+    shorter::rounds(rt, code, 12, z)
 }

@@ -3,8 +3,8 @@
 // call gave for place 1 with a record that has the same t, r and s but was not opened, its refusal and the
 // element.
 use crate::digest::{count, fold};
-use crate::lines::{number, text};
 use coder::Record;
+use std::io;
 
 #[derive(Drop)]
 struct Found {
@@ -12,14 +12,9 @@ struct Found {
     digest: u32,
 }
 
-pub(crate) fn with_each_s(t: u32, r: u32) {
+pub(crate) fn with_each_s(rt: &impl Print, t: u32, r: u32) -> io::Result<()> {
     let found = all(t, r);
-    text(b"openings");
-    number(t);
-    number(r);
-    number(found.allowed);
-    number(found.digest);
-    text(b"\n");
+    println!(rt; "openings {t} {r} {} {}", found.allowed, found.digest)
 }
 
 fn all(t: u32, r: u32) -> Found {

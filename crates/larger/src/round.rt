@@ -5,9 +5,10 @@ use crate::alter::{flip, front, longer, set};
 use crate::draw::{below, place, step, word};
 use crate::lines::{combine, correct, element, encode, encode_to, inverse, read, syndrome, third};
 use coder::Record;
+use std::io;
 
 // A round with buffers for the longest words, cut to the lengths of the code.
-pub(crate) fn buffered(code: Record, x: u32) -> u32 {
+pub(crate) fn buffered(rt: &impl Print, code: Record, x: u32) -> io::Result<u32> {
     let mut m = [0u8; 4095];
     let mut w = [0u8; 4095];
     let mut out = [7u8; 4097];
@@ -15,110 +16,132 @@ pub(crate) fn buffered(code: Record, x: u32) -> u32 {
     let k = coder::message_length(code) as usize;
     // No code is longer; the tests spare a proof of it.
     if 4095 < n {
-        return x;
+        return Ok(x);
     }
     if 4095 < k {
-        return x;
+        return Ok(x);
     }
-    round(code, x, &mut m[..k], &mut w[..n], &mut out[..n + 2])
+    round(rt, code, x, &mut m[..k], &mut w[..n], &mut out[..n + 2])
 }
 
 // `out` is the output for the codeword, and holds sevens.
-fn round(code: Record, start: u32, m: &mut [u8], w: &mut [u8], out: &mut [u8]) -> u32 {
+fn round(
+    rt: &impl Print,
+    code: Record,
+    start: u32,
+    m: &mut [u8],
+    w: &mut [u8],
+    out: &mut [u8],
+) -> io::Result<u32> {
     let x = word(start, m);
-    encode_to(code, m, out);
+    encode_to(rt, code, m, out)?;
     let n = w.len();
     let room = out.len();
-    let y = faults(code, x, front(out, n), room);
+    let y = faults(rt, code, x, front(out, n), room)?;
     let z = word(y, w);
-    on_both(code, z, m, front(out, n), w, room)
+    on_both(rt, code, z, m, front(out, n), w, room)
 }
 
 // The codeword itself, then with one place flipped, then with another; drawn twice, a place is flipped back.
-fn faults(code: Record, x: u32, c: &[u8], room: usize) -> u32 {
+fn faults(rt: &impl Print, code: Record, x: u32, c: &[u8], room: usize) -> io::Result<u32> {
     let n = c.len();
-    correct(code, c, room);
+    correct(rt, code, c, room)?;
     let y = step(x);
     let one = flip(longer(c), place(y, n));
-    correct(code, front(&one, n), room);
+    correct(rt, code, front(&one, n), room)?;
     let z = step(y);
     let two = flip(one, place(z, n));
-    correct(code, front(&two, n), room);
-    z
+    correct(rt, code, front(&two, n), room)?;
+    Ok(z)
 }
 
-fn on_both(code: Record, x: u32, m: &[u8], c: &[u8], w: &[u8], room: usize) -> u32 {
-    any_word(code, c, w, room);
-    let y = bytes(code, x, c, w, room);
-    let z = lengths(code, y, c, room);
+fn on_both(
+    rt: &impl Print,
+    code: Record,
+    x: u32,
+    m: &[u8],
+    c: &[u8],
+    w: &[u8],
+    room: usize,
+) -> io::Result<u32> {
+    any_word(rt, code, c, w, room)?;
+    let y = bytes(rt, code, x, c, w, room)?;
+    let z = lengths(rt, code, y, c, room)?;
     let l = step(z);
-    short(code, m, c, w, below(l, c.len()) as usize);
-    let last = messages(code, l, m, room);
-    places(code, last)
+    short(rt, code, m, c, w, below(l, c.len()) as usize)?;
+    let last = messages(rt, code, l, m, room)?;
+    places(rt, code, last)
 }
 
 // A codeword and any word.
-fn any_word(code: Record, c: &[u8], w: &[u8], room: usize) {
-    syndrome(code, w);
-    correct(code, w, room);
-    combine(code, c, w, room);
-    combine(code, w, w, room);
-    inverse(code, w, room);
-    read(code, c);
-    read(code, w);
+fn any_word(rt: &impl Print, code: Record, c: &[u8], w: &[u8], room: usize) -> io::Result<()> {
+    syndrome(rt, code, w)?;
+    correct(rt, code, w, room)?;
+    combine(rt, code, c, w, room)?;
+    combine(rt, code, w, w, room)?;
+    inverse(rt, code, w, room)?;
+    read(rt, code, c)?;
+    read(rt, code, w)
 }
 
 // One byte above 1, then a second one.
-fn bytes(code: Record, x: u32, c: &[u8], w: &[u8], room: usize) -> u32 {
+fn bytes(
+    rt: &impl Print,
+    code: Record,
+    x: u32,
+    c: &[u8],
+    w: &[u8],
+    room: usize,
+) -> io::Result<u32> {
     let n = c.len();
     let y = step(x);
     let z = step(y);
     let one = set(longer(w), place(y, n), (2 + z % 254) as u8);
-    one_byte(code, c, front(&one, n), room);
+    one_byte(rt, code, c, front(&one, n), room)?;
     let last = step(z);
     let two = set(one, place(last, n), 2);
-    two_bytes(code, front(&two, n), room);
-    last
+    two_bytes(rt, code, front(&two, n), room)?;
+    Ok(last)
 }
 
-fn one_byte(code: Record, c: &[u8], b: &[u8], room: usize) {
-    correct(code, b, room);
-    combine(code, c, b, room);
-    combine(code, b, c, room);
-    syndrome(code, b);
+fn one_byte(rt: &impl Print, code: Record, c: &[u8], b: &[u8], room: usize) -> io::Result<()> {
+    correct(rt, code, b, room)?;
+    combine(rt, code, c, b, room)?;
+    combine(rt, code, b, c, room)?;
+    syndrome(rt, code, b)
 }
 
-fn two_bytes(code: Record, b: &[u8], room: usize) {
-    correct(code, b, room);
-    syndrome(code, b);
+fn two_bytes(rt: &impl Print, code: Record, b: &[u8], room: usize) -> io::Result<()> {
+    correct(rt, code, b, room)?;
+    syndrome(rt, code, b)
 }
 
 // A word too short and one too long.
-fn lengths(code: Record, x: u32, c: &[u8], room: usize) -> u32 {
+fn lengths(rt: &impl Print, code: Record, x: u32, c: &[u8], room: usize) -> io::Result<u32> {
     let n = c.len();
     let y = step(x);
-    correct(code, front(c, below(y, n) as usize), room);
+    correct(rt, code, front(c, below(y, n) as usize), room)?;
     let z = step(y);
     let long = longer(c);
-    correct(code, front(&long, n + 1 + below(z, 3) as usize), room);
-    z
+    correct(rt, code, front(&long, n + 1 + below(z, 3) as usize), room)?;
+    Ok(z)
 }
 
 // An output too short, of l bytes.
-fn short(code: Record, m: &[u8], c: &[u8], w: &[u8], l: usize) {
-    correct(code, c, l);
-    encode(code, m, l);
-    combine(code, c, w, l);
+fn short(rt: &impl Print, code: Record, m: &[u8], c: &[u8], w: &[u8], l: usize) -> io::Result<()> {
+    correct(rt, code, c, l)?;
+    encode(rt, code, m, l)?;
+    combine(rt, code, c, w, l)
 }
 
 // A message without its last place, and one with a byte above 1.
-fn messages(code: Record, x: u32, m: &[u8], room: usize) -> u32 {
+fn messages(rt: &impl Print, code: Record, x: u32, m: &[u8], room: usize) -> io::Result<u32> {
     let k = m.len();
-    encode(code, without_last(m), room);
+    encode(rt, code, without_last(m), room)?;
     let y = step(x);
     let b = set(longer(m), place(y, k), 9);
-    encode(code, front(&b, k), room);
-    y
+    encode(rt, code, front(&b, k), room)?;
+    Ok(y)
 }
 
 fn without_last(m: &[u8]) -> &[u8] {
@@ -129,22 +152,22 @@ fn without_last(m: &[u8]) -> &[u8] {
 }
 
 // Third places and an element; 0 and n + 1 are drawn too, which are no places.
-fn places(code: Record, start: u32) -> u32 {
-    let x = third_of_two(code, start);
-    let y = third_of_two(code, x);
-    let z = third_of_two(code, y);
+fn places(rt: &impl Print, code: Record, start: u32) -> io::Result<u32> {
+    let x = third_of_two(rt, code, start)?;
+    let y = third_of_two(rt, code, x)?;
+    let z = third_of_two(rt, code, y)?;
     let i = around(code, step(y));
-    third(code, i, i);
+    third(rt, code, i, i)?;
     let e = step(z);
-    element(code, around(code, e));
-    e
+    element(rt, code, around(code, e))?;
+    Ok(e)
 }
 
-fn third_of_two(code: Record, x: u32) -> u32 {
+fn third_of_two(rt: &impl Print, code: Record, x: u32) -> io::Result<u32> {
     let y = step(x);
     let z = step(y);
-    third(code, around(code, y), around(code, z));
-    z
+    third(rt, code, around(code, y), around(code, z))?;
+    Ok(z)
 }
 
 // A number from 0 to n + 1.

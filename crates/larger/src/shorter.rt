@@ -4,28 +4,28 @@ use crate::draw::{below, step};
 use crate::lines::opening;
 use crate::round::buffered;
 use coder::Record;
+use std::io;
 
 // So many s, of which the first nine are fixed and the others drawn. `code` has s = 0.
-pub(crate) fn rounds(code: Record, count: u32, start: u32) {
+pub(crate) fn rounds(rt: &impl Print, code: Record, count: u32, start: u32) -> io::Result<()> {
     let t = code.t;
     let r = code.r;
     let m = coder::message_length(code);
     let mut x = start;
-    let mut i: u32 = 0;
-    while i < count {
+    for i in 0..count {
         x = step(x);
-        x = with(t, r, chosen(i, part_1(t, r), m, x), x);
-        i += 1;
+        x = with(rt, t, r, chosen(i, part_1(t, r), m, x), x)?;
     }
+    Ok(())
 }
 
-fn with(t: u32, r: u32, s: u32, x: u32) -> u32 {
+fn with(rt: &impl Print, t: u32, r: u32, s: u32, x: u32) -> io::Result<u32> {
     let o = coder::open(t, r, s);
-    opening(t, r, s, o);
+    opening(rt, t, r, s, o)?;
     if o.refusal == 0 {
-        return buffered(o.record, x);
+        return buffered(rt, o.record, x);
     }
-    x
+    Ok(x)
 }
 
 // Part 1 has `part` places and a message of the whole code m, of which one has to stay. In between there are
