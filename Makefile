@@ -1,5 +1,6 @@
 # The C library, its example and tests, and the comparisons with it. `make help` lists the targets.
-# Everything but the library itself, which rt writes, is built under target/host.
+# rt proves a crate and builds it in the crate's out/; the libraries are copied from there to target/staticlib.
+# Everything else is built under target/host.
 VERSION := 0.1.0
 PREFIX ?= /usr/local
 SECONDS := 60
@@ -16,6 +17,14 @@ need = @command -v $(1) >/dev/null || { echo "make $(2) needs $(1) on the PATH" 
 .PHONY: all library example check check-c check-rust check-cases check-sheet expected compare fuzz bench bench-passes bench-steps install uninstall clean help FORCE
 all: library example
 
+# $(call renew,FILE) copies a file to the target where the two differ
+renew = @mkdir -p $(@D); cmp -s $(1) $@ || cp $(1) $@
+# $(call archive,CRATE) has rt prove a static library, and takes what it built
+define archive
+cd crates/$(1) && rt lib
+$(call renew,crates/$(1)/out/lib$(1).a)
+endef
+
 # `make LIBRARY=path/to/libz2z4.a ..` takes a library that is there already: nothing is proved, and rt is not needed;
 # the Rust tests and the benchmarks need libtimed.a and libsteps.a too, which TIMED=path/to/libtimed.a and
 # STEPS=path/to/libsteps.a give them.
@@ -27,7 +36,7 @@ LIBRARY := target/staticlib/libz2z4.a
 # always asked: rt knows which crates have changed
 $(LIBRARY): FORCE
 	$(call need,rt,library)
-	rt staticlib z2z4
+	$(call archive,z2z4_c)
 endif
 library: $(LIBRARY)
 
@@ -40,7 +49,7 @@ else
 TIMED := target/staticlib/libtimed.a
 $(TIMED): FORCE | $(LIBRARY)
 	$(call need,rt,bench-passes)
-	rt staticlib timed
+	$(call archive,timed)
 endif
 ifeq ($(origin STEPS),command line)
 $(STEPS):
@@ -49,14 +58,34 @@ else
 STEPS := target/staticlib/libsteps.a
 $(STEPS): FORCE | $(LIBRARY) $(TIMED)
 	$(call need,rt,bench-steps)
-	rt staticlib steps
+	$(call archive,steps)
+endif
+
+# the programs that check-cases and check-sheet try; CASES=path and SHEET=path take programs that are there already.
+# rt also runs what it has built, here on no input, which each ends with success.
+ifeq ($(origin CASES),command line)
+$(CASES):
+	@echo "there is no program $@" >&2; exit 2
+else
+CASES := crates/cases/out/cases
+$(CASES): FORCE
+	$(call need,rt,check-cases)
+	cd crates/cases && rt run </dev/null >/dev/null
+endif
+ifeq ($(origin SHEET),command line)
+$(SHEET):
+	@echo "there is no program $@" >&2; exit 2
+else
+SHEET := crates/sheet/out/sheet
+$(SHEET): FORCE
+	$(call need,rt,check-sheet)
+	cd crates/sheet && rt run </dev/null >/dev/null
 endif
 
 # what the tests link: copies that are renewed where a library differs, so that none runs with another one
 LINKED := $(OUT)/lib/libz2z4.a
 LINKED_TIMED := $(OUT)/lib/libtimed.a
 LINKED_STEPS := $(OUT)/lib/libsteps.a
-renew = @mkdir -p $(OUT)/lib; cmp -s $(1) $@ || cp $(1) $@
 $(LINKED): $(LIBRARY) FORCE
 	$(call renew,$(LIBRARY))
 $(LINKED_TIMED): $(TIMED) FORCE
@@ -127,21 +156,17 @@ check-rust: $(LINKED) $(LINKED_TIMED) $(LINKED_STEPS)
 	+$(CARGO) test $(MANIFEST)
 
 # none of these lines is a call; cases stops at the first, so each is given alone
-check-cases: | $(OUT)
-	$(call need,rt,check-cases)
+check-cases: $(CASES) | $(OUT)
 	$(call need,cargo,check-cases)
-	rt check cases
 	+$(CARGO) build $(MANIFEST) -p second --bin cases
-	@while IFS= read -r line; do for program in target/bin/cases $(OUT)/rust/release/cases; do \
+	@while IFS= read -r line; do for program in $(CASES) $(OUT)/rust/release/cases; do \
 	    printf '%s\n' "$$line" | $$program | grep -Fqx -- "$$line: line 1 is malformed" || \
 	        { echo "not malformed, says $$program: $$line" >&2; exit 1; }; \
 	done; done <host/malformed
 
-check-sheet: | $(OUT)
-	$(call need,rt,check-sheet)
+check-sheet: $(SHEET) | $(OUT)
 	$(call need,cargo,check-sheet)
-	rt check sheet
-	+$(CARGO) run $(MANIFEST) -p second --bin check_sheet -- target/bin/sheet
+	+$(CARGO) run $(MANIFEST) -p second --bin check_sheet -- $(SHEET)
 
 # what the programs larger and cases have to print
 expected: | $(OUT)

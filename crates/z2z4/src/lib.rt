@@ -1,16 +1,14 @@
-// The calls for C, by t and r, with no record: each opens a record, r = 0 meaning r = t, and is the
-// coder's call with it. They answer 0 or a place, and a refusal as its negated number. What each
-// answers and writes is defined in crate z2z4_theory, specs/Calls.antt; that it is the coder's call is a
-// theorem there. In C a slice is a pointer and a length (include/z2z4.h). The caller keeps an output
-// apart from what is read.
+// The calls by t and r, with no record: each opens a record, r = 0 meaning r = t, and is the coder's call
+// with it. They answer 0 or a place, and a refusal as its negated number. What each answers and writes is
+// defined in crate z2z4_theory, specs/Calls.antt; that it is the coder's call is a theorem there. Crate
+// z2z4_c hands them to C under the same names.
 #![tactic(auto)]
 
 ghost use Rattle.std.specs.Prelude.{◌≡◌, ◌<◌, ◌^◌};
 ghost use Rattle.z2z4_theory.specs.Calls.{signed, opened_for_c, encode_answer_for_c, encode_output_for_c, correct_answer_for_c, correct_output_for_c, combine_answer_for_c, combine_output_for_c, third_answer_for_c};
 
 // The codeword of a message, at the front of `out`. Answers 0, or −1, −2, −3 or −4.
-#[unsafe(no_mangle)]
-pub extern "C" fn z2z4_encode(t: u32, r: u32, message: &[u8], out: &mut [u8]) -> i32
+pub fn z2z4_encode(t: u32, r: u32, message: &[u8], out: &mut [u8]) -> i32
     ensures answer { result ≡ encode_answer_for_c t r message.now out.old }
     ensures bytes { out.new ≡ encode_output_for_c t r message.now out.old }
 {
@@ -25,8 +23,7 @@ pub extern "C" fn z2z4_encode(t: u32, r: u32, message: &[u8], out: &mut [u8]) ->
 
 // The codeword that differs from a word in at most one place, at the front of `out`. Answers that
 // place, 0 for none, or −1, −2, −3 or −4.
-#[unsafe(no_mangle)]
-pub extern "C" fn z2z4_correct(t: u32, r: u32, word: &[u8], out: &mut [u8]) -> i32
+pub fn z2z4_correct(t: u32, r: u32, word: &[u8], out: &mut [u8]) -> i32
     ensures answer { result ≡ correct_answer_for_c t r word.now out.old }
     ensures bytes { out.new ≡ correct_output_for_c t r word.now out.old }
 {
@@ -40,8 +37,7 @@ pub extern "C" fn z2z4_correct(t: u32, r: u32, word: &[u8], out: &mut [u8]) -> i
 }
 
 // Two words combined by the group law, at the front of `out`. Answers 0, or −1, −2, −3 or −4.
-#[unsafe(no_mangle)]
-pub extern "C" fn z2z4_combine(t: u32, r: u32, first: &[u8], second: &[u8], out: &mut [u8]) -> i32
+pub fn z2z4_combine(t: u32, r: u32, first: &[u8], second: &[u8], out: &mut [u8]) -> i32
     ensures answer { result ≡ combine_answer_for_c t r first.now second.now out.old }
     ensures bytes { out.new ≡ combine_output_for_c t r first.now second.now out.old }
 {
@@ -55,8 +51,7 @@ pub extern "C" fn z2z4_combine(t: u32, r: u32, first: &[u8], second: &[u8], out:
 }
 
 // The place that makes a codeword of weight 3 with the places i and j. Answers it, or −1, −5 or −6.
-#[unsafe(no_mangle)]
-pub extern "C" fn z2z4_third_place(t: u32, r: u32, i: u32, j: u32) -> i32
+pub fn z2z4_third_place(t: u32, r: u32, i: u32, j: u32) -> i32
     ensures { result ≡ third_answer_for_c t r i j }
 {
     let o = open(t, r);

@@ -71,9 +71,7 @@ fn programs(cc: &str, library: &Path) -> Result<Vec<PathBuf>, String> {
 fn exported(cc: &str, library: &Path, name: &str, calls: &[&str]) -> Result<Vec<PathBuf>, String> {
     if !library.is_file() {
         let file = library.display();
-        return Err(format!(
-            "there is no {file}: `rt staticlib {name}` builds it"
-        ));
+        return Err(format!("there is no {file}: `make bench` builds it"));
     }
     copies::make(cc, library, calls, &folder())
 }
