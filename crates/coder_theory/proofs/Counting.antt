@@ -8,7 +8,6 @@ use Prim.Native.Nat.{ℕ, zero, suc, ◌+◌, ◌-◌, ◌<◌, ◌≤◌}
 use native.Mathlib.Omega.{arith}
 use borrow.Author.Tests.{eq-eqb, ne_eqb}
 use lib.Dec.{eqb}
-use lib.ListN.{length}
 use Rattle.group_theory.specs.Group.{Modulus}
 use Rattle.layout_theory.specs.Choice.{one_if}
 use Rattle.layout_theory.specs.Parameters.{places_of, message_of, binary_of, moduli_for}

@@ -1,9 +1,9 @@
 -- The front of an extended word and its last place. Assumes nothing.
 use mathlib.Core.Path.{◌≡◌, refl, sym, ap, ap₂, subst, ◌∙◌}
 use mathlib.Core.List.{List, [], ◌∷◌, ◌++◌}
-use Prim.Native.Nat.{ℕ, zero, suc, ◌+◌, ◌-◌, ◌%◌, ◌<◌, ◌≤◌}
+use Prim.Native.Nat.{ℕ, zero, suc, ◌+◌, ◌-◌, ◌%◌, ◌≤◌}
 use native.Mathlib.Omega.{arith}
-use lib.ListN.{length, take, drop, get_or, set, length-append, take-append-drop, drop_of_length-le}
+use lib.ListN.{take, drop, get_or, set, length-append, take-append-drop, drop_of_length-le}
 use lib.Seq.{length-take-le, drop-cons, take-append_seam, take-set-le, take-set-lt, drop-set-lt, get_or-take}
 use Rattle.words_theory.specs.Words.{Bits, Word, weight, flip}
 use Rattle.words_theory.proofs.Flips.{flip-set}

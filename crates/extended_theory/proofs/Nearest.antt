@@ -3,17 +3,16 @@ use mathlib.Core.Path.{◌≡◌, refl, sym, ap, ap₂, subst, ◌∙◌}
 use mathlib.Core.Logic.{◌≢◌}
 use mathlib.Core.Bool.{Bool, true, false, not, ◌&&◌, true≢false, false≢true}
 use mathlib.Core.List.{List, ◌++◌}
-use Prim.Native.Nat.{ℕ, zero, suc, ◌+◌, ◌-◌, ◌%◌, ◌<◌, ◌≤◌}
+use Prim.Native.Nat.{ℕ, zero, suc, ◌-◌, ◌%◌, ◌<◌, ◌≤◌}
 use native.Mathlib.Omega.{arith}
 use native.Mathlib.Decide.{dec_lt}
 use lib.ListN.{length, take, drop}
 use Rattle.group_theory.specs.Group.{Modulus}
 use Rattle.group_theory.proofs.Signs.{all_zero-zeros, zeros-all_zero}
-use Rattle.layout_theory.specs.Choice.{pick}
 use Rattle.words_theory.specs.Words.{Word, weight, is_odd, distance, flip}
 use Rattle.words_theory.specs.Syndrome.{syndrome, length_of}
 use Rattle.words_theory.proofs.Reading.{valid-syndrome}
-use Rattle.words_theory.proofs.Distances.{distance-flip, neighbour}
+use Rattle.words_theory.proofs.Distances.{neighbour}
 use Rattle.shortened_theory.specs.Code.{fill, LeftOut, ShortenedCodeword, is_shortened_codeword, corrected_old_place, shortened_corrected, shortened_corrected_place}
 use Rattle.shortened_theory.specs.Claims.{NearestTo}
 use Rattle.shortened_theory.proofs.Filling.{word-fill}

@@ -6,8 +6,8 @@ use native.Mathlib.Omega.{arith}
 use lib.ListN.{take}
 use lib.Seq.{take-append-le, take-take}
 use Rattle.group_theory.specs.Group.{Modulus}
-use Rattle.layout_theory.specs.Parameters.{Admitted, places_of, message_of, moduli_for}
-use Rattle.words_theory.specs.Words.{Word, weight}
+use Rattle.layout_theory.specs.Parameters.{Admitted, message_of, moduli_for}
+use Rattle.words_theory.specs.Words.{Word}
 use Rattle.words_theory.specs.Syndrome.{length_of}
 use Rattle.words_theory.proofs.Theorem.{length-code, length-message-code}
 use Rattle.shortened_theory.specs.Allowed.{Allowed}
@@ -15,7 +15,7 @@ use Rattle.shortened_theory.specs.Code.{ShortenedCodeword, shortened_encode}
 use Rattle.shortened_theory.specs.Claims.{ShortenedOf}
 use Rattle.shortened_theory.proofs.Filling.{fill-word}
 use Rattle.shortened_theory.proofs.Theorem as plain
-use Rattle.extended_theory.specs.Code.{last_place, ExtendedCodeword, extend, extended_encode}
+use Rattle.extended_theory.specs.Code.{ExtendedCodeword, extend, extended_encode}
 use Rattle.extended_theory.specs.Claims.{ExtendedOf, ExtendedCodes}
 use Rattle.extended_theory.proofs.Extending.{last-place, extend-word, extend-front, extend-even}
 use Rattle.extended_theory.proofs.Nearest.{nearest, apart}

@@ -2,7 +2,7 @@
 use Rattle.std.specs.Prelude.{◌≡◌, ◌≢◌, true, false, List, ℕ, suc, ◌-◌, ◌≤◌, take}
 use Rattle.group_theory.specs.Group.{Modulus}
 use Rattle.layout_theory.specs.Parameters.{Admitted, places_of, message_of, moduli_for}
-use Rattle.words_theory.specs.Words.{Word, distance, is_odd, flip}
+use Rattle.words_theory.specs.Words.{Word, distance, flip}
 use Rattle.shortened_theory.specs.Allowed.{Allowed}
 use Rattle.shortened_theory.specs.Code.{LeftOut, corrected_old_place}
 use Rattle.extended_theory.specs.Code.{last_place, front_of, ExtendedCodeword, extended_encode, extended_corrected, extended_corrected_place, is_even_fault}

@@ -8,7 +8,7 @@ use native.Mathlib.Decide.{dec_lt}
 use native.Mathlib.Omega.{arith}
 use borrow.Author.Tests.{lt-ltb, le-ltb, le-leb, lt-leb}
 use lib.Dec.{leb, ltb}
-use lib.ListN.{length, take, drop, get_or, length-map, length-append, length-drop, take-append-drop, get_or-append, get_or-eq_default}
+use lib.ListN.{length, take, drop, get_or, length-map, length-append, length-drop, take-append-drop, get_or-eq_default}
 use lib.Seq.{length-take-le, take_all, take-take, take-add, drop_at, take-append-add, get_or-take, get_or-append-add}
 use Rattle.group_theory.specs.Group.{Modulus, moduli, hd, tl, element}
 use Rattle.layout_theory.specs.Choice.{pick}

@@ -6,7 +6,7 @@ use mathlib.Core.List.{List, [], ◌∷◌, ◌++◌, append_assoc, append-nil}
 use Prim.Native.Nat.{ℕ, zero, suc, ◌+◌, ◌-◌, ◌*◌, ◌/◌, ◌%◌, ◌≤◌, ◌<◌}
 use native.Mathlib.Decide.{dec_lt}
 use native.Mathlib.Omega.{arith}
-use lib.ListN.{length, take, drop, get_or, set, length-set, length-append, replicate-append-replicate}
+use lib.ListN.{length, take, drop, get_or, set, length-set, replicate-append-replicate}
 use lib.Seq.{take-suc-set, get_or-drop, drop-drop}
 use Rattle.group_theory.specs.Group.{tl}
 use Rattle.words_theory.specs.Digits.{digit}
@@ -14,7 +14,7 @@ use Rattle.words_theory.specs.Words.{zero_word}
 use Rattle.shortened_theory.specs.Code.{fill}
 use Rattle.loops_theory.specs.Spread.{read_of, rest_of, width_of, weight_of, row}
 use Rattle.loops_theory.proofs.Spreads.{weight-append, drop-rest}
-use Rattle.loops_theory.proofs.Laying.{length-row, hd-get_or, get_or-tl}
+use Rattle.loops_theory.proofs.Laying.{hd-get_or, get_or-tl}
 
 -- ---- one after the other
 pub laid-after : (k m n : ℕ) (v u r x y : List ℕ) → take (k + m) u ≡ take k v ++ x → take (k + m + n) r ≡ take (k + m) u ++ y → take (k + (m + n)) r ≡ take k v ++ (x ++ y)

@@ -30,7 +30,7 @@ use Rattle.loops_theory.specs.Spread.{spread, message_in, HoldsMessage, HoldsFil
 use Rattle.loops_theory.specs.Passing.{BitsIn, Tells}
 use Rattle.loops_theory.proofs.Answers.{places-room, holds-message, syndrome-sum}
 use Rattle.loops_theory.proofs.Segments.{weights-sum}
-use Rattle.loops_theory.proofs.Laying.{SinglesRoom, room_for}
+use Rattle.loops_theory.proofs.Laying.{room_for}
 use Rattle.loops_theory.proofs.Rows.{drop-fill}
 use Rattle.loops_theory.proofs.Passing.{bits-join, bits-unfilled, bad-unfilled, bits-zero}
 

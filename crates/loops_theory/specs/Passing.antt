@@ -1,5 +1,5 @@
 -- What a pass over a word tells of its bytes: whether some of them are above 1. Assumes nothing.
-use Rattle.std.specs.Prelude.{Bool, true, false, List, ℕ, ◌+◌, ◌<◌, ◌≤◌, ltb, length, get_or}
+use Rattle.std.specs.Prelude.{Bool, true, false, List, ℕ, ◌<◌, ◌≤◌, ltb, length, get_or}
 use Rattle.layout_theory.specs.Choice.{pick}
 
 -- the bytes from the index `start` up to `end` are 0 or 1; or one of them is not
