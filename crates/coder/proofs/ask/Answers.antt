@@ -9,7 +9,7 @@ use Rattle.coder_theory.proofs.Outcomes.{word_room}
 use Rattle.coder_theory.proofs.Corrections.{fault-from}
 use Rattle.coder_theory.proofs.Asking.{ask-refused, ask-told}
 use Rattle.coder.proofs.ask.Goals as goal
-use Rattle.coder.proofs.ask.Goals.{After-fault-q, After-received-a, Else-refusal-ne0}
+use Rattle.coder.proofs.ask.Goals.{After-fault-q, After-received-a}
 
 -- what was found, in the words of a call that has no output
 found : (q : After-received-a)

@@ -1,7 +1,6 @@
 -- `coder::commit` meets its contract: what asking tells, whether the claim is that, and then the flip. Assumes nothing.
 use Rattle.coder_theory.proofs.Asking.{commit-refused, commit-stopped, commit-ready, commit-changed}
 use Rattle.coder.proofs.commit.Goals as goal
-use Rattle.coder.proofs.commit.Goals.{After-claim-x, After-flip_in_place, Else-refusal-ne0, Else-x-ne0}
 
 pub returns-then-refusal-ne0 : goal.returns-then-refusal-ne0
 returns-then-refusal-ne0 c =

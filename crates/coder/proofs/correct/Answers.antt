@@ -5,7 +5,7 @@ use Prim.Native.Nat.{ℕ}
 use Rattle.shortened_theory.specs.Calls.{fault_at_for, shortened_fault_for}
 use Rattle.coder_theory.proofs.Corrections.{fault-from, correct-ready, correct-refused, correct-stopped, correct-changed}
 use Rattle.coder.proofs.correct.Goals as goal
-use Rattle.coder.proofs.correct.Goals.{After-correction-x, After-fault-q, After-flip, After-new_place-p, After-received-a, Else-refusal-ne0, Else-x-ne0}
+use Rattle.coder.proofs.correct.Goals.{After-fault-q}
 
 pub returns-then-refusal-ne0 : goal.returns-then-refusal-ne0
 returns-then-refusal-ne0 c =

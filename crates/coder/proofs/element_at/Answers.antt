@@ -4,7 +4,7 @@ use mathlib.Core.Path.{sym, ◌∙◌}
 use Rattle.coder_theory.proofs.Answers.{element-state, element-outside, element-inside, shape-places, shape-still, shape-element}
 use Rattle.coder_theory.proofs.States.{Clear, state-clear}
 use Rattle.coder.proofs.element_at.Goals as goal
-use Rattle.coder.proofs.element_at.Goals.{After-shape_of-shape, After-state-x, Else-x-ne0}
+use Rattle.coder.proofs.element_at.Goals.{Else-x-ne0}
 
 pub returns-then-x-ne0 : goal.returns-then-x-ne0
 returns-then-x-ne0 c =

@@ -1,7 +1,6 @@
 -- `coder::encode` meets its contract: what is found before the bytes, and an output that was written only where the pass over them finds none above 1. Assumes nothing.
 use Rattle.coder_theory.proofs.Reading.{encode-stopped, encode-refused, encode-good}
 use Rattle.coder.proofs.encode.Goals as goal
-use Rattle.coder.proofs.encode.Goals.{After-encode-p, After-lengths-size, After-sizes-x, Else-x-ne0}
 
 pub returns-then-x-ne0 : goal.returns-then-x-ne0
 returns-then-x-ne0 c =

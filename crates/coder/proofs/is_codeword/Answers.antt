@@ -4,7 +4,7 @@ use Rattle.coder_theory.specs.Reasons.{first_reason}
 use Rattle.coder_theory.specs.Calls.{answer_of, word_reasons}
 use Rattle.coder_theory.proofs.Outcomes.{word_room, codeword-refused, codeword-accepted}
 use Rattle.coder.proofs.is_codeword.Goals as goal
-use Rattle.coder.proofs.is_codeword.Goals.{After-received-a, Else-refusal-ne0}
+use Rattle.coder.proofs.is_codeword.Goals.{After-received-a}
 
 -- what was found, in the words of a call that has no output
 told : (q : After-received-a)

@@ -6,7 +6,7 @@ use lib.Seq.{length-take-le}
 use Rattle.coder_theory.specs.Calls.{shown}
 use Rattle.coder_theory.proofs.Outcomes.{shown-no, shown-yes}
 use Rattle.coder.proofs.read_message.Goals as goal
-use Rattle.coder.proofs.read_message.Goals.{After-is_codeword-a, After-message_bytes-m, After-shared_slice_known-1}
+use Rattle.coder.proofs.read_message.Goals.{After-message_bytes-m}
 
 -- what is shown where the test says yes, and that the word is as long
 message : (c : After-message_bytes-m)

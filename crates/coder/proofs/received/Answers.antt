@@ -2,7 +2,6 @@
 use native.Mathlib.Omega.{arith}
 use Rattle.coder_theory.proofs.Reading.{word-stopped, word-refused, word_good}
 use Rattle.coder.proofs.received.Goals as goal
-use Rattle.coder.proofs.received.Goals.{After-lengths-size, After-scan-w, After-sizes-x, Else-x-ne0}
 
 pub returns-then-x-ne0 : goal.returns-then-x-ne0
 returns-then-x-ne0 c =

@@ -1,7 +1,6 @@
 -- `coder::third_place` meets its contract. Assumes nothing.
 use Rattle.coder_theory.proofs.Outcomes.{third-refused, third-told}
 use Rattle.coder.proofs.third_place.Goals as goal
-use Rattle.coder.proofs.third_place.Goals.{After-third-k, Else-x-ne0}
 
 pub returns-then-x-ne0 : goal.returns-then-x-ne0
 returns-then-x-ne0 c = third-refused _ _ _ _ c.places-x.ensures c.if-x-ne0.true

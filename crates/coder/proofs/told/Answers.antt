@@ -1,7 +1,6 @@
 -- `coder::told` meets its contract. Assumes nothing.
 use mathlib.Core.Path.{sym, ◌∙◌}
 use Rattle.coder.proofs.told.Goals as goal
-use Rattle.coder.proofs.told.Goals.{Else-is_left_out}
 
 pub returns-then-is_left_out : goal.returns-then-is_left_out
 returns-then-is_left_out c = rw (sym c.is_left_out.ensures ∙ c.if-is_left_out.true)

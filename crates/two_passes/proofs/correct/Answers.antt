@@ -1,7 +1,6 @@
 -- `two_passes::correct` meets its contract: what the checks answer, and where they accept, the word with the place at fault flipped. Assumes nothing.
 use Rattle.coder_theory.proofs.Corrections.{correct-ready, correct-refused, correct-stopped, correct-changed}
 use Rattle.two_passes.proofs.correct.Goals as goal
-use Rattle.two_passes.proofs.correct.Goals.{After-correction-x, After-flip, After-new_place-p, Else-refusal-ne0, Else-x-ne0}
 
 pub returns-then-refusal-ne0 : goal.returns-then-refusal-ne0
 returns-then-refusal-ne0 c =

@@ -9,7 +9,6 @@ use Rattle.coder_theory.proofs.Bounds.{numbers, combine-refusal}
 use Rattle.z2z4_theory.specs.Calls.{signed}
 use Rattle.z2z4_theory.proofs.Opening.{by-refusal, by-record, open_told, combines-as-opened}
 use Rattle.z2z4.proofs.z2z4_combine.Goals as goal
-use Rattle.z2z4.proofs.z2z4_combine.Goals.{After-combine-s}
 
 pub answer-requires : goal.answer-requires
 answer-requires c =

@@ -9,7 +9,6 @@ use Rattle.coder_theory.proofs.Bounds.{numbers, correct-refusal, correct-place}
 use Rattle.z2z4_theory.specs.Calls.{signed}
 use Rattle.z2z4_theory.proofs.Opening.{by-refusal, by-record, open_told, corrects-as-opened}
 use Rattle.z2z4.proofs.z2z4_correct.Goals as goal
-use Rattle.z2z4.proofs.z2z4_correct.Goals.{After-correct-c}
 
 pub answer-requires : goal.answer-requires
 answer-requires c =

@@ -9,7 +9,6 @@ use Rattle.coder_theory.proofs.Bounds.{numbers, encode-refusal}
 use Rattle.z2z4_theory.specs.Calls.{signed}
 use Rattle.z2z4_theory.proofs.Opening.{by-refusal, by-record, open_told, encodes-as-opened}
 use Rattle.z2z4.proofs.z2z4_encode.Goals as goal
-use Rattle.z2z4.proofs.z2z4_encode.Goals.{After-encode-a}
 
 pub answer-requires : goal.answer-requires
 answer-requires c =

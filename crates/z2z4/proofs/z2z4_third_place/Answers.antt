@@ -9,7 +9,6 @@ use Rattle.coder_theory.proofs.Bounds.{numbers, third-refusal, third-place}
 use Rattle.z2z4_theory.specs.Calls.{signed}
 use Rattle.z2z4_theory.proofs.Opening.{by-refusal, by-record, open_told, third-as-opened}
 use Rattle.z2z4.proofs.z2z4_third_place.Goals as goal
-use Rattle.z2z4.proofs.z2z4_third_place.Goals.{After-third_place-p}
 
 pub answer-requires : goal.answer-requires
 answer-requires c =

@@ -2,7 +2,6 @@
 use native.Mathlib.Omega.{arith}
 use Rattle.words_theory.proofs.Bad.{bad-most}
 use Rattle.checks.proofs.check.bad_place.Goals as goal
-use Rattle.checks.proofs.check.bad_place.Goals.{Start}
 
 pub overflow_cast-result : goal.overflow_cast-result
 overflow_cast-result c =

@@ -5,7 +5,6 @@ use Rattle.coder_theory.specs.Calls.{answer_of}
 use Rattle.coder_theory.proofs.Firsts.{first-no}
 use Rattle.coder_theory.proofs.Outcomes.{byte-bad, byte-good}
 use Rattle.checks.proofs.check.bytes.Goals as goal
-use Rattle.checks.proofs.check.bytes.Goals.{Else-p-ne0}
 
 pub returns-then-p-ne0 : goal.returns-then-p-ne0
 returns-then-p-ne0 c = byte-bad _ _ c.bad_place-p.ensures c.if-p-ne0.true _

@@ -6,7 +6,7 @@ use borrow.Author.Tests.{eq-eqb, ne_eqb}
 use Rattle.coder_theory.specs.Reasons.{Reason, left_out, full}
 use Rattle.coder_theory.proofs.Firsts.{first-yes, first-no, first-end}
 use Rattle.checks.proofs.check.correction.Goals as goal
-use Rattle.checks.proofs.check.correction.Goals.{After-is_left_out, Start}
+use Rattle.checks.proofs.check.correction.Goals.{Start}
 
 abbrev number_of : Reason → ℕ
 number_of x = x.number

@@ -8,7 +8,7 @@ use Rattle.coder_theory.proofs.Firsts.{first-yes, first-no, first-end}
 use Rattle.coder_theory.proofs.States.{Clear, state-number, state-clear, state-past}
 use Rattle.coder_theory.proofs.Outcomes.{outside-by}
 use Rattle.checks.proofs.check.places.Goals as goal
-use Rattle.checks.proofs.check.places.Goals.{After-is_outside, After-is_outside-2, After-lengths-size, After-state-x, Else-x-ne0}
+use Rattle.checks.proofs.check.places.Goals.{After-is_outside, After-is_outside-2, Else-x-ne0}
 
 abbrev number_of : Reason → ℕ
 number_of x = x.number

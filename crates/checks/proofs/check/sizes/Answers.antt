@@ -8,7 +8,7 @@ use Rattle.coder_theory.specs.Calls.{state_reasons}
 use Rattle.coder_theory.proofs.Firsts.{first-yes, first-no, first-end}
 use Rattle.coder_theory.proofs.States.{state-number, state-clear, state-past}
 use Rattle.checks.proofs.check.sizes.Goals as goal
-use Rattle.checks.proofs.check.sizes.Goals.{After-state-x, Else-word-n, Else-x-ne0}
+use Rattle.checks.proofs.check.sizes.Goals.{Else-word-n, Else-x-ne0}
 
 pub returns-then-x-ne0 : goal.returns-then-x-ne0
 returns-then-x-ne0 c =

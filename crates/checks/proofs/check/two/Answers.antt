@@ -14,7 +14,7 @@ use Rattle.coder_theory.proofs.States.{Clear, state-clear, state-past}
 use Rattle.coder_theory.proofs.Answers.{usable-length}
 use Rattle.coder_theory.proofs.Outcomes.{state-answer}
 use Rattle.checks.proofs.check.two.Goals as goal
-use Rattle.checks.proofs.check.two.Goals.{After-lengths-size, After-state-x, Else-first-n, Else-room-n, Else-second-n, Else-x-ne0}
+use Rattle.checks.proofs.check.two.Goals.{After-lengths-size, Else-first-n, Else-second-n, Else-x-ne0}
 
 pub returns-then-x-ne0 : goal.returns-then-x-ne0
 returns-then-x-ne0 c =

@@ -5,7 +5,7 @@ use Rattle.coder_theory.specs.Calls.{word_length, message_length}
 use Rattle.coder_theory.proofs.Answers.{shape-places, shape-message, shape-still, usable-length, unusable-length}
 use Rattle.coder_theory.proofs.States.{Clear, state-clear}
 use Rattle.checks.proofs.fit.lengths.Goals as goal
-use Rattle.checks.proofs.fit.lengths.Goals.{After-shape_of-h, Then-state-eq0}
+use Rattle.checks.proofs.fit.lengths.Goals.{Then-state-eq0}
 
 -- past the test the record is usable
 open-fit : (c : Then-state-eq0) → Clear c.args.«record»

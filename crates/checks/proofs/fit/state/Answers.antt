@@ -8,7 +8,6 @@ use Rattle.coder_theory.specs.Reasons.{Reason, closed, unfit, not_allowed}
 use Rattle.coder_theory.proofs.States.{true-fit}
 use Rattle.coder_theory.proofs.Firsts.{first-yes, first-no, first-end}
 use Rattle.checks.proofs.fit.state.Goals as goal
-use Rattle.checks.proofs.fit.state.Goals.{Else-t-eq0, Else-unfit}
 
 abbrev number_of : Reason → ℕ
 number_of x = x.number

@@ -3,7 +3,6 @@ use borrow.Author.Tests.{eq-eqb, ne_eqb}
 use mathlib.Core.Path.{sym, ◌∙◌}
 use Rattle.coder_theory.specs.State.{is_unfit}
 use Rattle.checks.proofs.fit.unfit.Goals as goal
-use Rattle.checks.proofs.fit.unfit.Goals.{Then-admitted}
 
 pub returns-then-r-eq0 : goal.returns-then-r-eq0
 unfolding is_unfit

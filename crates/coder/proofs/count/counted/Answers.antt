@@ -1,7 +1,6 @@
 -- `coder::count::counted` meets its contract: each count is at most their sum, which is not full. Assumes nothing.
 use Rattle.coder_theory.proofs.Corrections.{counted-by}
 use Rattle.coder.proofs.count.counted.Goals as goal
-use Rattle.coder.proofs.count.counted.Goals.{After-width-width}
 
 pub returns : goal.returns
 returns c =

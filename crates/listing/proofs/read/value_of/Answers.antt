@@ -6,7 +6,6 @@ use lib.ListN.{length, take}
 use lib.Seq.{length-take-le, get_or-take}
 use Rattle.listing_theory.proofs.Digits.{value-start, value-small, value-step, value-end}
 use Rattle.listing.proofs.read.value_of.Goals as goal
-use Rattle.listing.proofs.read.value_of.Goals.{At-loop-i, Start}
 
 pub loop-i-init : goal.loop-i-init
 loop-i-init c = value-start _

@@ -6,7 +6,6 @@ use Rattle.listing_theory.specs.Sheet.{field_text, heading_text}
 use Rattle.listing_theory.proofs.Lengths.{puts-field}
 use Rattle.listing_theory.proofs.Putting.{joined, renamed}
 use Rattle.listing.proofs.write.heading.Goals as goal
-use Rattle.listing.proofs.write.heading.Goals.{After-field-b, After-field-c, After-field-d, After-message_length}
 
 pub field-c-requires : goal.field-c-requires
 field-c-requires c =

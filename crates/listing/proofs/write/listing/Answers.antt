@@ -7,7 +7,6 @@ use Rattle.listing_theory.specs.Sheet.{place_lines, listing_text}
 use Rattle.listing_theory.proofs.Lengths.{puts-heading}
 use Rattle.listing_theory.proofs.Putting.{joined, renamed}
 use Rattle.listing.proofs.write.listing.Goals as goal
-use Rattle.listing.proofs.write.listing.Goals.{After-heading-next, After-word_length}
 
 pub places-requires : goal.places-requires
 places-requires c =

@@ -7,7 +7,6 @@ use Rattle.listing_theory.specs.Sheet.{place_lines}
 use Rattle.listing_theory.proofs.Lengths.{lines-length, lines-last}
 use Rattle.listing_theory.proofs.Putting.{joined, renamed, puts_none, puts-length}
 use Rattle.listing.proofs.write.places.Goals as goal
-use Rattle.listing.proofs.write.places.Goals.{At-loop-k}
 
 pub loop-k-init : goal.loop-k-init
 unfolding place_lines

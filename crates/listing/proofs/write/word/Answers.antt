@@ -5,7 +5,6 @@ use native.Mathlib.Omega.{arith}
 use lib.Seq.{take_all}
 use Rattle.listing_theory.proofs.Putting.{one_more, puts_none, puts-length, renamed}
 use Rattle.listing.proofs.write.word.Goals as goal
-use Rattle.listing.proofs.write.word.Goals.{At-loop-i}
 
 pub loop-i-init : goal.loop-i-init
 loop-i-init c = (search rules, let a = c.args in rw (add-zero a.at) (puts_none a.out.now a.at))

@@ -3,7 +3,6 @@ use mathlib.Core.Path.{sym, ◌∙◌}
 use native.Mathlib.Omega.{arith}
 use Rattle.words_theory.proofs.Bad.{bad-step, bad-found, bad-end}
 use Rattle.two_passes.proofs.bytes.first_bad.Goals as goal
-use Rattle.two_passes.proofs.bytes.first_bad.Goals.{At-loop-i}
 
 pub returns-then-word-i-gt1 : goal.returns-then-word-i-gt1
 returns-then-word-i-gt1 c =

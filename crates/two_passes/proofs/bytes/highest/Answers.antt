@@ -3,7 +3,6 @@ use mathlib.Core.Path.{refl, sym, ◌∙◌}
 use native.Mathlib.Omega.{arith}
 use Rattle.words_theory.proofs.Bad.{bad-step, bad-end}
 use Rattle.two_passes.proofs.bytes.highest.Goals as goal
-use Rattle.two_passes.proofs.bytes.highest.Goals.{At-loop-i}
 
 pub loop-i-init : goal.loop-i-init
 loop-i-init c = (omega arith, λ h. refl)

@@ -5,7 +5,6 @@ use Rattle.two_passes.specs.Calls.{fault_for}
 use Rattle.two_passes.proofs.Answers.{fault-filled}
 use Rattle.two_passes.proofs.Filled.{fewer-blank}
 use Rattle.two_passes.proofs.fill.fault.Goals as goal
-use Rattle.two_passes.proofs.fill.fault.Goals.{After-put-arg-1}
 
 pub put-requires : goal.put-requires
 put-requires c = let p = c.requires in fewer-blank p.1 (let a = p.0.all in omega arith)

@@ -2,7 +2,6 @@
 use mathlib.Core.Path.{refl}
 use Rattle.two_passes.proofs.Filled.{copy_start, copy_step, copy-end}
 use Rattle.two_passes.proofs.fill.put.Goals as goal
-use Rattle.two_passes.proofs.fill.put.Goals.{At-loop-i}
 
 pub loop-i-init : goal.loop-i-init
 loop-i-init c = copy_start _ _ _ c.requires

@@ -8,7 +8,6 @@ use Rattle.layout_theory.proofs.Parameters.{Sizes}
 use Rattle.words_theory.proofs.OtherHalf.{other-one, other-two, other-three, other-four}
 use Rattle.words_theory.proofs.Shapes.{OfCode, sizes, located}
 use Rattle.two_passes.proofs.halves.other_index.Goals as goal
-use Rattle.two_passes.proofs.halves.other_index.Goals.{Start}
 
 -- what is required says that the shape has a place
 module _ (s : Shape) (i : ℕ) (p : OfCode s × (i < s.places)) where

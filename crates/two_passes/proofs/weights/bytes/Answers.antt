@@ -4,7 +4,6 @@ use native.Mathlib.Omega.{arith}
 use lib.ListN.{drop}
 use Rattle.loops_theory.proofs.Laying.{copy_start, copy_step, length-row, byte-write, bytes-done}
 use Rattle.two_passes.proofs.weights.bytes.Goals as goal
-use Rattle.two_passes.proofs.weights.bytes.Goals.{In-loop-i}
 
 pub loop-i-init : goal.loop-i-init
 loop-i-init c = let h = c.requires in let l = length-row false c.args.n (drop c.args.at c.args.word.now) in copy_start _ _ _ _ (omega arith) (omega arith)

@@ -4,7 +4,6 @@ use native.Mathlib.Omega.{arith}
 use lib.ListN.{drop}
 use Rattle.loops_theory.proofs.Laying.{copy_start, copy_step, copy_done, length-row, digit-wrote}
 use Rattle.two_passes.proofs.weights.digits.Goals as goal
-use Rattle.two_passes.proofs.weights.digits.Goals.{In-loop-i}
 
 pub loop-i-init : goal.loop-i-init
 loop-i-init c = let h = c.requires in let l = length-row true c.args.n (drop c.args.at c.args.word.now) in copy_start _ _ _ _ (omega arith) (omega arith)

@@ -3,7 +3,6 @@ use borrow.Author.Rules.{rules}
 use native.Mathlib.Omega.{arith}
 use Rattle.two_passes.proofs.Segments.{pairs-none, pairs-some}
 use Rattle.two_passes.proofs.weights.pair_segment.Goals as goal
-use Rattle.two_passes.proofs.weights.pair_segment.Goals.{Else-n-eq0, Start}
 
 pub returns-then-n-eq0 : goal.returns-then-n-eq0
 returns-then-n-eq0 c =

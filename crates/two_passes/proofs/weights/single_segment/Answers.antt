@@ -2,7 +2,6 @@
 use native.Mathlib.Omega.{arith}
 use Rattle.loops_theory.proofs.Laying.{single-done}
 use Rattle.two_passes.proofs.weights.single_segment.Goals as goal
-use Rattle.two_passes.proofs.weights.single_segment.Goals.{Start}
 
 pub returns : goal.returns
 returns c =

@@ -4,7 +4,7 @@ use native.Mathlib.Omega.{arith}
 use Rattle.layout_theory.proofs.Parameters.{Known, known}
 use Rattle.two_passes.proofs.Answers.{syndrome-long, fault-none, fault-short, fault-long}
 use Rattle.two_passes.proofs.whole.fault.Goals as goal
-use Rattle.two_passes.proofs.whole.fault.Goals.{After-shape_of-s, Else-n-eq0, Else-word-n}
+use Rattle.two_passes.proofs.whole.fault.Goals.{Else-n-eq0}
 
 pub returns-then-n-eq0 : goal.returns-then-n-eq0
 returns-then-n-eq0 c = fault-none _ _ _ _ c.shape_of-s.ensures c.if-n-eq0.true

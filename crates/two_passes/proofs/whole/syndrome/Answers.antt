@@ -6,7 +6,7 @@ use Rattle.layout_theory.proofs.Parameters.{Known, known, sizes-known}
 use Rattle.loops_theory.proofs.Answers.{holds-message, syndrome-sum}
 use Rattle.two_passes.proofs.Answers.{syndrome-none, syndrome-short, syndrome-long}
 use Rattle.two_passes.proofs.whole.syndrome.Goals as goal
-use Rattle.two_passes.proofs.whole.syndrome.Goals.{After-shape_of-s, Else-places-eq0, Else-word-places}
+use Rattle.two_passes.proofs.whole.syndrome.Goals.{Else-places-eq0}
 
 pub returns-then-places-eq0 : goal.returns-then-places-eq0
 returns-then-places-eq0 c =
