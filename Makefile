@@ -70,7 +70,7 @@ else
 CASES := crates/cases/out/cases
 $(CASES): FORCE
 	$(call need,rt,check-cases)
-	cd crates/cases && rt run </dev/null >/dev/null
+	cd crates/cases && rt run </dev/null >&2
 endif
 ifeq ($(origin SHEET),command line)
 $(SHEET):
@@ -79,7 +79,7 @@ else
 SHEET := crates/sheet/out/sheet
 $(SHEET): FORCE
 	$(call need,rt,check-sheet)
-	cd crates/sheet && rt run </dev/null >/dev/null
+	cd crates/sheet && rt run </dev/null >&2
 endif
 
 # what the tests link: copies that are renewed where a library differs, so that none runs with another one

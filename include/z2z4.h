@@ -26,7 +26,7 @@
  *
  * Stack. A call needs under 32 KiB of stack. That is measured with every code (make check), not proved.
  *
- * What is proved is what the functions do as Rattle functions: the contracts in crates/z2z4/src/lib.rt. That this
+ * What is proved is what the functions do as Rattle functions: the contracts in crates/z2z4_c/src/lib.rt. That this
  * header declares them rightly is tested (make check), not proved. The library is for Linux on x86-64.
  */
 #ifndef Z2Z4_H

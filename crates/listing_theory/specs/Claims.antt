@@ -36,7 +36,7 @@ whole_sheet t r =
     ++ (10 ∷ [])
     ++ flat_map (line_of t r) (from 1 (places_of t))
 
--- the bytes of the buffer that a program writes a sheet into, `io::large_buffer`
+-- the bytes of the buffer that a program writes a sheet into: `text` in sheet/src/main.rt
 abbrev pub buffer_length : ℕ
 buffer_length = 65536
 

@@ -33,8 +33,8 @@ fn main() {
         println!("cargo::rerun-if-changed={}", file.display());
     }
     link("bench", programs(&cc, &library));
-    link("passes", exported(&cc, &timed, "timed", &TIMED));
-    link("steps", exported(&cc, &steps, "steps", &STEPS));
+    link("passes", exported(&cc, &timed, &TIMED));
+    link("steps", exported(&cc, &steps, &STEPS));
     let rustc = env::var("RUSTC").expect("set by cargo");
     let level = env::var("OPT_LEVEL").expect("set by cargo");
     note("BENCH_CC", &format!("{} {}", version(&cc), FLAGS.join(" ")));
@@ -68,7 +68,7 @@ fn programs(cc: &str, library: &Path) -> Result<Vec<PathBuf>, String> {
 }
 
 /// What `passes` or `steps` is linked with: the calls of a crate that only this benchmark uses.
-fn exported(cc: &str, library: &Path, name: &str, calls: &[&str]) -> Result<Vec<PathBuf>, String> {
+fn exported(cc: &str, library: &Path, calls: &[&str]) -> Result<Vec<PathBuf>, String> {
     if !library.is_file() {
         let file = library.display();
         return Err(format!("there is no {file}: `make bench` builds it"));
