@@ -1,23 +1,23 @@
--- `parameters::fits_message` meets its contract. Assumes nothing.
+-- `parameters::Code::fits_message` meets its contract. Assumes nothing.
 use mathlib.Core.Bool.{true}
 use mathlib.Core.Path.{◌≡◌, sym, ◌∙◌}
 use Rattle.shortened_theory.specs.Calls.{allowed_for, fits_message}
 use Rattle.shortened_theory.proofs.Guards.{still, message-is}
-use Rattle.parameters.proofs.fits_message.Goals as goal
-use Rattle.parameters.proofs.fits_message.Goals.{Then-allowed}
+use Rattle.parameters.proofs.Code.fits_message.Goals as goal
+use Rattle.parameters.proofs.Code.fits_message.Goals.{Then-allowed}
 
 -- past the test s is allowed
-ok : (c : Then-allowed) → allowed_for c.args.t c.args.r c.args.s ≡ true
+ok : (c : Then-allowed) → allowed_for c.args.self.t c.args.self.r c.args.self.s ≡ true
 ok c = sym c.allowed.ensures ∙ c.if-allowed.true
 
 pub overflow_sub-result : goal.overflow_sub-result
-overflow_sub-result c = (still _ _ _ (ok c.before.before) _ c.shape_of-h.ensures).1
+overflow_sub-result c = (still _ _ _ (ok ((goal.at.overflow_sub-result c).Then-allowed)) _ c.shape-h.ensures).1
 
 pub returns-then-allowed : goal.returns-then-allowed
 unfolding fits_message
 returns-then-allowed c =
-    let y = ok c.before.before in
-    rw (y, message-is _ _ _ y _ c.shape_of-h.ensures)
+    let y = ok ((goal.at.returns-then-allowed c).Then-allowed) in
+    rw (y, message-is _ _ _ y _ c.shape-h.ensures)
 
 pub returns : goal.returns
 unfolding fits_message
