@@ -42,40 +42,74 @@ pub fn or_hamming(t: u32, r: u32) -> u32
     if r == 0 { t } else { r }
 }
 
-// The shape of the code with t and r.
-pub fn shape_of(t: u32, r: u32) -> Shape
-    ensures { result ≡ shape_for t r }
-{
-    if admitted(t, r) {
-        let n = (1u32 << t) - 1;
-        return Shape {
-            a: (2 * r - t) as usize,
-            b: (t - r) as usize,
-            places: n,
-            binary: (1u32 << r) - 1,
-            message: n - t,
-        };
-    }
-    Shape {
-        a: 0,
-        b: 0,
-        places: 0,
-        binary: 0,
-        message: 0,
-    }
+// Which code: t, r, and how many places are left out of it. Any three numbers may stand here; what is answered
+// for those that are not admitted or not allowed is said at each call.
+#[derive(Clone, Copy)]
+pub struct Code {
+    pub t: u32,
+    pub r: u32,
+    pub s: u32,
 }
 
-// Whether t and r are admitted and s is allowed with them.
-pub fn allowed(t: u32, r: u32, s: u32) -> bool
-    ensures { result ≡ allowed_for t r s }
-{
-    if admitted(t, r) {
-        let h = shape_of(t, r);
-        let a = h.a as u32;
-        let part = h.binary - a;
-        return ends(part, h.message, s);
+impl Code {
+    // The shape of the whole code, which has all its places; zeros where t and r are not admitted.
+    pub fn shape(self) -> Shape
+        ensures { result ≡ shape_for self.t self.r }
+    {
+        let t = self.t;
+        let r = self.r;
+        if admitted(t, r) {
+            let n = (1u32 << t) - 1;
+            return Shape {
+                a: (2 * r - t) as usize,
+                b: (t - r) as usize,
+                places: n,
+                binary: (1u32 << r) - 1,
+                message: n - t,
+            };
+        }
+        Shape {
+            a: 0,
+            b: 0,
+            places: 0,
+            binary: 0,
+            message: 0,
+        }
     }
-    false
+
+    // Whether t and r are admitted and s is allowed with them.
+    pub fn allowed(self) -> bool
+        ensures { result ≡ allowed_for self.t self.r self.s }
+    {
+        if admitted(self.t, self.r) {
+            let h = self.shape();
+            let a = h.a as u32;
+            let part = h.binary - a;
+            return ends(part, h.message, self.s);
+        }
+        false
+    }
+
+    // Whether so many bytes are those of a word of the shortened code.
+    pub fn fits_word(self, count: usize) -> bool
+        ensures { result ≡ fits_word self.t self.r self.s count }
+    {
+        self.allowed() && count == (self.shape().places - self.s) as usize
+    }
+
+    // Whether so many bytes are those of a message of the shortened code.
+    pub fn fits_message(self, count: usize) -> bool
+        ensures { result ≡ fits_message self.t self.r self.s count }
+    {
+        self.allowed() && count == (self.shape().message - self.s) as usize
+    }
+
+    // Whether s is allowed and an output has room for a word.
+    pub fn has_room(self, room: usize) -> bool
+        ensures { result ≡ (allowed_for self.t self.r self.s && leb (places_of self.t - self.s) room) }
+    {
+        self.allowed() && (self.shape().places - self.s) as usize <= room
+    }
 }
 
 // Whether s ends inside part 1, at its end or after a whole pair, and a message place stays.
@@ -91,41 +125,9 @@ fn ends(part: u32, message: u32, s: u32) -> bool
     false
 }
 
-// Whether so many bytes are those of a word of the shortened code, and of a message.
-pub fn fits_word(t: u32, r: u32, s: u32, count: usize) -> bool
-    ensures { result ≡ fits_word t r s count }
-{
-    if allowed(t, r, s) {
-        let h = shape_of(t, r);
-        return count == (h.places - s) as usize;
-    }
-    false
-}
-
-pub fn fits_message(t: u32, r: u32, s: u32, count: usize) -> bool
-    ensures { result ≡ fits_message t r s count }
-{
-    if allowed(t, r, s) {
-        let h = shape_of(t, r);
-        return count == (h.message - s) as usize;
-    }
-    false
-}
-
-// Whether s is allowed and an output has room for a word.
-pub fn has_room(t: u32, r: u32, s: u32, room: usize) -> bool
-    ensures { result ≡ (allowed_for t r s && leb (places_of t - s) room) }
-{
-    if allowed(t, r, s) {
-        let h = shape_of(t, r);
-        return (h.places - s) as usize <= room;
-    }
-    false
-}
-
 // Whether p is one of n places.
 pub fn is_place(n: u32, p: u32) -> bool
     ensures { result ≡ (leb 1 p && leb p n) }
 {
-    if p == 0 { false } else { p <= n }
+    (1..=n).contains(&p)
 }

@@ -1,12 +1,11 @@
 -- What the functions that know s answer, for any t, r and s and any bytes: they do nothing where t and r are not admitted, s is not
 -- allowed, a word or a message is not of its length, or an output is too short. Assumes nothing.
-use Rattle.std.specs.Prelude.{◌≡◌, Bool, ◌&&◌, not, List, ℕ, ◌+◌, ◌-◌, eqb, leb, length}
+use Rattle.std.specs.Prelude.{◌≡◌, Bool, ◌&&◌, not, List, ℕ, ◌+◌, ◌-◌, eqb, leb, length, Result}
 use Rattle.group_theory.specs.Group.{zeros}
 use Rattle.layout_theory.specs.Choice.{pick}
 use Rattle.layout_theory.specs.Parameters.{Admitted, admits, places_of, message_of, moduli_for}
-use Rattle.words_theory.specs.Calls.{bad_from, fault_at, fault, written}
+use Rattle.words_theory.specs.Calls.{bad_from, if_bits, fault_at, fault, written}
 use Rattle.shortened_theory.specs.Allowed.{Allowed, allows}
-use Rattle.shortened_theory.specs.declared.Scanned.{Scanned}
 use Rattle.shortened_theory.specs.Code.{fill, shortened_syndrome, shortened_encode, shortened_combine, shortened_inverse, third_old_place, shortened_width}
 
 unfoldable pub allowed_for : ℕ → ℕ → ℕ → Bool
@@ -29,13 +28,9 @@ pub record Fits (t r s n k : ℕ) : Type 0 where
 unfoldable pub shortened_syndrome_for : ℕ → ℕ → ℕ → List ℕ → List ℕ
 shortened_syndrome_for t r s w = pick (fits_word t r s (length w)) (shortened_syndrome (moduli_for t r) s w) (zeros (moduli_for t r))
 
--- what one pass over a word finds: the lowest place of a byte above 1, or 0 and the syndrome
-unfoldable pub scanned_for : ℕ → ℕ → ℕ → List ℕ → Scanned
-scanned_for t r s w =
-    record {
-      bad = pick (fits_word t r s (length w)) (bad_from 1 w) 0;
-      syndrome = pick (eqb (bad_from 1 w) 0) (shortened_syndrome_for t r s w) (zeros (moduli_for t r));
-    }
+-- what one pass over a word finds: its syndrome, or the lowest place of a byte above 1
+unfoldable pub scanned_for : ℕ → ℕ → ℕ → List ℕ → Result (List ℕ) ℕ
+scanned_for t r s w = if_bits (pick (fits_word t r s (length w)) (bad_from 1 w) 0) (shortened_syndrome_for t r s w)
 
 -- the place at fault in the filled word, by its old number; of a word of syndrome e
 unfoldable pub fault_at_for : ℕ → ℕ → ℕ → List ℕ → List ℕ → ℕ

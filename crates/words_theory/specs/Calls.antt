@@ -1,6 +1,6 @@
 -- What the functions of crates coding and places that know no s answer, for any t and r and any bytes: they do nothing where t and r are not
 -- admitted, a number is none of a place, or an output is too short; the lowest byte above 1, and the place at fault. Assumes nothing.
-use Rattle.std.specs.Prelude.{Bool, ◌&&◌, not, ◌≢◌, List, [], ◌∷◌, ◌++◌, ℕ, suc, ◌<◌, ◌≤◌, eqb, leb, ltb, length, drop}
+use Rattle.std.specs.Prelude.{Bool, ◌&&◌, not, ◌≢◌, List, [], ◌∷◌, ◌++◌, ℕ, zero, suc, ◌<◌, ◌≤◌, eqb, leb, ltb, length, drop, Result, Ok, Err}
 use Rattle.group_theory.specs.Group.{Modulus, negative}
 use Rattle.layout_theory.specs.Choice.{pick}
 use Rattle.layout_theory.specs.Parameters.{Admitted, admits, places_of, moduli_for}
@@ -14,6 +14,11 @@ use Rattle.words_theory.specs.Coding.{third}
 unfoldable pub bad_from : ℕ → List ℕ → ℕ
 bad_from p [] = 0
 bad_from p (b ∷ w) = pick (ltb 1 b) p (bad_from (suc p) w)
+
+-- x where no place has a byte above 1, and else the place
+abbrev pub if_bits : {A : Type 0} → ℕ → A → Result A ℕ
+if_bits zero x = Ok x
+if_bits (suc p) x = Err (suc p)
 
 -- an output into which n bytes are written, the further bytes kept; or as it was
 abbrev pub written : Bool → ℕ → List ℕ → List ℕ → List ℕ

@@ -1,4 +1,4 @@
--- `parameters::shape_of` meets its contract: the numbers of document 01, or zeros. Assumes nothing.
+-- `parameters::Code::shape` meets its contract: the numbers of document 01, or zeros. Assumes nothing.
 use mathlib.Core.Path.{◌≡◌, sym, ap₂, ◌∙◌}
 use mathlib.Core.Bool.{true}
 use Prim.Native.Nat.{ℕ, ◌-◌, ◌*◌, ◌%◌, ◌^◌, ◌<◌, ◌≤◌}
@@ -7,18 +7,18 @@ use Rattle.layout_theory.specs.Parameters.{longest, admits}
 use Rattle.layout_theory.specs.Calls.{shape_for}
 use Rattle.layout_theory.specs.declared.Shape.{Shape}
 use Rattle.layout_theory.proofs.Parameters.{shift_one, bounds}
-use Rattle.parameters.proofs.shape_of.Goals as goal
-use Rattle.parameters.proofs.shape_of.Goals.{Then-admitted}
+use Rattle.parameters.proofs.Code.shape.Goals as goal
+use Rattle.parameters.proofs.Code.shape.Goals.{Then-admitted}
 
 -- past the test
-passed : (c : Then-admitted) → let t = c.args.t in let r = c.args.r in (t ≤ longest) × (r ≤ t) × (t ≤ 2 * r) × (t < 2 ^ t) × (0 < 2 ^ r)
+passed : (c : Then-admitted) → let t = c.args.self.t in let r = c.args.self.r in (t ≤ longest) × (r ≤ t) × (t ≤ 2 * r) × (t < 2 ^ t) × (0 < 2 ^ r)
 passed c = bounds _ _ _ c.admitted.ensures c.if-admitted.true
 
 -- the two shifts lose nothing
-places : (c : Then-admitted) → let t = c.args.t in 1 * 2 ^ t % 4294967296 ≡ 2 ^ t
+places : (c : Then-admitted) → let t = c.args.self.t in 1 * 2 ^ t % 4294967296 ≡ 2 ^ t
 places c = shift_one _ 32 (omega (arith, passed c))
 
-binary : (c : Then-admitted) → let r = c.args.r in 1 * 2 ^ r % 4294967296 ≡ 2 ^ r
+binary : (c : Then-admitted) → let r = c.args.self.r in 1 * 2 ^ r % 4294967296 ≡ 2 ^ r
 binary c = shift_one _ 32 (omega (arith, passed c))
 
 pub overflow_shl-n : goal.overflow_shl-n
@@ -55,7 +55,7 @@ admitted-shape t r e = rw e
 
 pub returns-then-admitted : goal.returns-then-admitted
 returns-then-admitted c =
-    let g = c.args in
+    let g = c.args.self in
     ap₂ (shape g.t g.r) (places c) (binary c) ∙ admitted-shape g.t g.r (sym c.admitted.ensures ∙ c.if-admitted.true)
 
 pub returns : goal.returns
