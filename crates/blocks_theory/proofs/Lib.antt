@@ -7,6 +7,5 @@ pub mod Members
 pub mod Splits
 pub mod Descents
 pub mod Standing
-pub mod Skips
 pub mod Rising
 pub mod Locate

@@ -29,10 +29,10 @@ overflow_mul-u c =
     omega (arith, (low_turn c.args.a c.args.x l.u l.i c.requires (search rules) c.loop-i-test.true l.invariant.0 l.invariant.1).1)
 
 pub overflow_add-u : goal.overflow_add-u
-overflow_add-u c = let t = turn (goal.at.overflow_add-u c).In-loop-i in omega (arith, t.0, t.1, c.wide.ensures)
+overflow_add-u c = let t = turn (goal.at.overflow_add-u c).In-loop-i in omega (arith, t.0, t.1, c.from.ensures)
 
 pub loop-i-preserved : goal.loop-i-preserved
-loop-i-preserved c = let t = turn (goal.at.loop-i-preserved c).In-loop-i in (omega arith, ap (λ (d : ℕ). 2 * c.loop-i.u + d) c.wide.ensures ∙ t.0)
+loop-i-preserved c = let t = turn (goal.at.loop-i-preserved c).In-loop-i in (omega arith, ap (λ (d : ℕ). 2 * c.loop-i.u + d) c.from.ensures ∙ t.0)
 
 pub returns : goal.returns
 returns c =

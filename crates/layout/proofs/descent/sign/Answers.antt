@@ -9,20 +9,20 @@ use Rattle.blocks_theory.proofs.Rising.{lead-start, sign-turn, lead-end}
 use Rattle.layout.proofs.descent.sign.Goals as goal
 
 pub loop-j-init : goal.loop-j-init
-loop-j-init c = (omega arith, sym (lead-start c.args.a c.args.b c.requires.0 c.args.x c.requires.1))
+loop-j-init c = (omega arith, sym (lead-start c.args.m.a c.args.m.b c.requires.0 c.args.x c.requires.1))
 
-pub lead_after-s-requires : goal.lead_after-s-requires
-lead_after-s-requires c =
+pub sign_after-s-requires : goal.sign_after-s-requires
+sign_after-s-requires c =
     let g = c.args in
-    (sign-turn g.a g.b c.requires.0 g.x c.requires.1 _ c.loop-j-test.true c.loop-j.invariant.0).0
+    (sign-turn g.m.a g.m.b c.requires.0 g.x c.requires.1 _ c.loop-j-test.true c.loop-j.invariant.0).0
 
 pub loop-j-preserved : goal.loop-j-preserved
 loop-j-preserved c =
     let g = c.args in
     let l = c.loop-j in
-    let x = get_or g.x (g.a + (l.j - 1)) 0 in (
+    let x = get_or g.x (g.m.a + (l.j - 1)) 0 in (
       omega arith,
-      c.lead_after-s.ensures ∙ ap (odd_or x) l.invariant.1 ∙ (sign-turn g.a g.b c.requires.0 g.x c.requires.1 _ c.loop-j-test.true l.invariant.0).1,
+      c.sign_after-s.ensures ∙ ap (odd_or x) l.invariant.1 ∙ (sign-turn g.m.a g.m.b c.requires.0 g.x c.requires.1 _ c.loop-j-test.true l.invariant.0).1,
     )
 
 pub returns : goal.returns
@@ -30,4 +30,4 @@ returns c =
     let g = c.args in
     let l = c.loop-j in
     let z : l.j ≡ 0 = omega arith in
-    l.invariant.1 ∙ ap (λ (j : ℕ). lead (drop (g.a + j) (moduli g.a g.b)) (drop (g.a + j) g.x)) z ∙ lead-end g.a g.b c.requires.0 g.x c.requires.1
+    l.invariant.1 ∙ ap (λ (j : ℕ). lead (drop (g.m.a + j) (moduli g.m.a g.m.b)) (drop (g.m.a + j) g.x)) z ∙ lead-end g.m.a g.m.b c.requires.0 g.x c.requires.1
