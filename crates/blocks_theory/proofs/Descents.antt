@@ -171,23 +171,24 @@ module _ (a b : ℕ) (h : a + b ≤ 12) where
       t ∙ ap (λ (k : ℕ). 2 ^ k) (sym e)
 
   -- by the powers that the code computes
-  pub record Counted (j all even : ℕ) : Type 0 where
-    pub less : even ≤ all
-    pub small : all ≤ 2 ^ 24
+  pub record Counted (j even low : ℕ) : Type 0 where
+    pub less : even ≤ low
+    pub small : low ≤ 2 ^ 24
     pub evens : even ≡ length (numbers Even (level a b j))
-    pub pluses : (all - even) / 2 ≡ length (numbers Plus (level a b j))
-    pub lows : (all + even) / 2 ≡ length (numbers Low (level a b j))
+    pub pluses : low - even ≡ length (numbers Plus (level a b j))
+    pub lows : low ≡ length (numbers Low (level a b j))
 
-  pub counted : (j : ℕ) → j ≤ b → Counted j (2 ^ (a + 2 * j)) (2 ^ (a + j))
+  pub counted : (j : ℕ) → j ≤ b → Counted j (2 ^ (a + j)) ((2 ^ (a + 2 * j) + 2 ^ (a + j)) / 2)
   counted j k =
       let c = level-counts a b h j k in
       let c0 = c.0 in
       let c1 = c.1 in
       let s = size_power j k in
       let e = even_power a b h j k in
+      let p : 2 ^ (a + 2 * j) ≤ 2 ^ 24 = pow_mono {i = a + 2 * j} {j = 24} (omega arith) in
       record {
         less = omega arith;
-        small = pow_mono {i = a + 2 * j} {j = 24} (omega arith);
+        small = omega arith;
         evens = omega arith;
         pluses = omega arith;
         lows = omega arith;

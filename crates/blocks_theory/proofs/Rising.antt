@@ -256,7 +256,7 @@ pub record Rising (a b : ℕ) (s : Sign) (z : List ℕ) (k : ℕ) (c : Kind) (j 
 pub numbers-few : (a b : ℕ) → a + b ≤ 12 → (s : Sign) → length (numbers (kind_of s) (moduli a b)) < 2 ^ 25
 numbers-few a b h s = go s (ap length (numbers-all a b h s))
   where
-    n : Counted a b h b (2 ^ (a + 2 * b)) (2 ^ (a + b))
+    n : Counted a b h b (2 ^ (a + b)) ((2 ^ (a + 2 * b) + 2 ^ (a + b)) / 2)
     n = counted a b h b (omega arith)
 
     go : (s : Sign) → length (numbers (kind_of s) (level a b b)) ≡ length (numbers (kind_of s) (moduli a b)) → length (numbers (kind_of s) (moduli a b)) < 2 ^ 25

@@ -59,15 +59,10 @@ offset (suc (suc zero)) s m = s + m
 offset (suc (suc (suc d))) s m = 2 * s + m
 
 abbrev pub kind_after : Kind → ℕ → Kind
-kind_after Even d = Even
-kind_after Plus zero = Plus
-kind_after Plus (suc zero) = Low
-kind_after Plus (suc (suc zero)) = Plus
-kind_after Plus (suc (suc (suc d))) = Plus
-kind_after Low zero = Low
-kind_after Low (suc zero) = Low
-kind_after Low (suc (suc zero)) = Low
-kind_after Low (suc (suc (suc d))) = Plus
+kind_after c zero = c
+kind_after c (suc zero) = Low
+kind_after c (suc (suc zero)) = c
+kind_after c (suc (suc (suc d))) = Plus
 
 -- index k lies in the block of a digit
 pub record InBlock (k s m digit : ℕ) : Type 0 where

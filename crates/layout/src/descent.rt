@@ -4,7 +4,7 @@
 // by comparing the index with the blocks' widths, and so on down to the binary components, where all
 // numbers have one sign and the index is the number. What has sign 3 is found by its negative, which has
 // sign 1.
-ghost use Rattle.std.specs.Prelude.{◌≡◌, ◌++◌, ◌+◌, ◌*◌, ◌≤◌, ◌<◌, ◌^◌, length, drop};
+ghost use Rattle.std.specs.Prelude.{◌≡◌, ◌++◌, ◌+◌, ◌-◌, ◌*◌, ◌≤◌, ◌<◌, ◌^◌, length, drop};
 ghost use Rattle.group_theory.specs.Group.{Valid, moduli, times, number, element};
 ghost use Rattle.group_theory.specs.Sign.{lead, odd_or};
 ghost use Rattle.blocks_theory.specs.Blocks.{level};
@@ -18,12 +18,12 @@ pub(crate) fn count(m: Moduli, kind: Kind, j: usize) -> u32
     requires { (m.a + m.b ≤ 12) × (j ≤ m.b) }
     ensures { (result ≡ length (numbers kind (level m.a m.b j))) × (result ≤ 2 ^ 24) }
 {
-    let all = 1u32 << (m.a + 2 * j);
     let even = 1u32 << (m.a + j);
+    let low = ((1u32 << (m.a + 2 * j)) + even) / 2;
     match kind {
         Kind::Even => even,
-        Kind::Plus => (all - even) / 2,
-        Kind::Low => (all + even) / 2,
+        Kind::Plus => low - even,
+        Kind::Low => low,
     }
 }
 
@@ -42,28 +42,28 @@ impl Blocks {
         requires { (m.a + m.b ≤ 12) × (j < m.b) }
         ensures { (result.even ≡ length (numbers kind (level m.a m.b j))) × (result.one ≡ ones kind (level m.a m.b j)) }
     {
-        let even = count(m, kind, j);
-        match kind {
-            Kind::Even => Blocks { even, one: 0 },
-            _ => Blocks {
-                even,
-                one: count(m, Kind::Low, j),
-            },
+        let one = match kind {
+            Kind::Even => 0,
+            _ => count(m, Kind::Low, j),
+        };
+        Blocks {
+            even: count(m, kind, j),
+            one,
         }
     }
 
-    // The digit whose block has index k.
-    fn digit(self, k: u32) -> u8
-        ensures { InBlock k self.even self.one result }
+    // The digit whose block has index k, and the index there.
+    fn find(self, k: u32) -> (u8, u32)
+        ensures { InBlock k self.even self.one result.0 × (result.1 ≡ k - offset result.0 self.even self.one) }
     {
         if k < self.even {
-            0
+            (0, k)
         } else if k < self.even + self.one {
-            1
+            (1, k - self.even)
         } else if k < 2 * self.even + self.one {
-            2
+            (2, k - (self.even + self.one))
         } else {
-            3
+            (3, k - (2 * self.even + self.one))
         }
     }
 
@@ -76,6 +76,9 @@ impl Blocks {
     }
 }
 
+// What follows of a kind and of a sign are free functions: the two enums stand in a crate of theory, which
+// has no functions.
+
 // The kind of the numbers in the block of a digit. The sign is that of the components below where one of
 // them is odd, and else that of the digit. So an even digit asks of those below what was asked before,
 // 1 asks that their sign is not 3, and 3 that it is 1.
@@ -83,14 +86,16 @@ fn after(kind: Kind, d: u8) -> Kind
     requires { d < 4 }
     ensures { result ≡ kind_after kind d }
 {
-    match (kind, d) {
-        (Kind::Even, _) => Kind::Even,
-        (_, 1) => Kind::Low,
-        (_, 3) => Kind::Plus,
-        _ => kind,
+    if d == 1 {
+        Kind::Low
+    } else if d == 3 {
+        Kind::Plus
+    } else {
+        kind
     }
 }
 
+// The kind among whose numbers an element of a sign is sought.
 fn kind(sign: Sign) -> Kind
     ensures { result ≡ kind_of sign }
 {
@@ -100,7 +105,7 @@ fn kind(sign: Sign) -> Kind
     }
 }
 
-// By what an element of a sign differs from the one whose number is sought, and the other way round.
+// What an element of a sign is multiplied by to be the one whose number is sought, and that one to be it.
 fn factor(sign: Sign) -> u8
     ensures { result ≡ factor_of sign }
 {
@@ -119,10 +124,9 @@ fn top(m: Moduli, sign: Sign, k: u32) -> (Element, u32)
     let mut i = k;
     let mut kind = kind(sign);
     for j in (0..m.b).rev() {
-        let blocks = Blocks::of(m, j, kind);
-        let d = blocks.digit(i);
+        let (d, index) = Blocks::of(m, j, kind).find(i);
         r[m.a + j] = (factor(sign) * d) % 4;
-        i -= blocks.start(d);
+        i = index;
         kind = after(kind, d);
     }
     (r, i)
@@ -156,10 +160,12 @@ fn sign_after(sign: Sign, d: u8) -> Sign
     requires { d < 4 }
     ensures { digit_of result ≡ odd_or d (digit_of sign) }
 {
-    match d {
-        1 => Sign::One,
-        3 => Sign::Three,
-        _ => sign,
+    if d % 2 == 0 {
+        sign
+    } else if d == 1 {
+        Sign::One
+    } else {
+        Sign::Three
     }
 }
 

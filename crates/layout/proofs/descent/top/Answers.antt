@@ -13,9 +13,9 @@ pub loop-j-preserved : goal.loop-j-preserved
 loop-j-preserved c =
     let l = c.loop-j in
     let g = c.args in
-    let q = rw (c.of-blocks.ensures.0, c.of-blocks.ensures.1) at c.digit-d.ensures in
-    rw (c.after-kind.ensures, c.start-i.ensures.0, c.of-blocks.ensures.0, c.of-blocks.ensures.1, c.factor.ensures)
-    (falling-step g.m.a g.m.b c.requires.0 g.sign g.k l.i l.kind l.j l.r _ _ l.invariant c.loop-j-test.true q refl)
+    let f = rw (c.of.ensures.0, c.of.ensures.1) at c.find-d.ensures in
+    rw (c.after-kind.ensures, f.1, c.factor.ensures)
+    (falling-step g.m.a g.m.b c.requires.0 g.sign g.k l.i l.kind l.j l.r _ _ l.invariant c.loop-j-test.true f.0 refl)
 
 pub returns : goal.returns
 returns c =
