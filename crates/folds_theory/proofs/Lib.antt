@@ -4,6 +4,7 @@
 pub mod Twice
 pub mod Offs
 pub mod Gathers
+pub mod Parts
 pub mod Halving
 pub mod Levelling
 pub mod Wholes

@@ -1,5 +1,5 @@
 -- `folds::weighted` meets its contract. Assumes nothing.
-use Rattle.std.proofs.Common.{sym, ◌∙◌, subst, ◌≡◌, Bool, true, false, rules, ◌↔◌, IsTrue}
+use Rattle.std.proofs.Common.{sym, ◌∙◌, false, rules, IsTrue}
 use Rattle.folds_theory.proofs.Wholes.{with-room, without-room}
 use Rattle.folds.proofs.weighted.Goals as goal
 
