@@ -92,8 +92,9 @@ fn digit(a: usize, i: usize, c: u8) -> u8
     if i < a { c } else { 2 * c }
 }
 
-// The sum of the upper half of the weights, modulo 4; they are added to the lower half. By an index, since a
-// loop over two slices took 2 to 4 nanoseconds more a call, up to 12 calls a sum.
+// The sum of the upper half of the weights, modulo 4; they are added to the lower half. By an index: a loop
+// over two slices by `enumerate` took 2 to 6 nanoseconds more a call, up to 12 calls a sum, and of a `zip` with
+// `iter_mut` no proof sees what is written.
 fn halve(v: &mut [u8]) -> u8
     ensures sum { let n = length v.old / 2 in result ≡ weights.total (stretch n n v.old) % 4 }
     ensures left { let n = length v.old / 2 in v.new ≡ weights.added (take n v.old) (stretch n n v.old) ++ drop n v.old }
