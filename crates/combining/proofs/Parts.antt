@@ -115,9 +115,9 @@ module _ (start end : ℕ) (old r : List ℕ) (le : start ≤ end) (len : length
     two-parts h s o l b due w =
         goes-on s o l b w
         (λ i k.
-            h i (omega arith) (omega (arith, len))
-            ∙ ap₂ (λ (m n : ℕ). (m + n) % 2) (p i k) (q i k)
-            ∙ sym (due (start + i) (omega arith) (omega arith)))
+        h i (omega arith) (omega (arith, len))
+        ∙ ap₂ (λ (m n : ℕ). (m + n) % 2) (p i k) (q i k)
+        ∙ sym (due (start + i) (omega arith) (omega arith)))
 
     -- the digit of a pair of a part
     module _ (i : ℕ) (k : i + 1 < end - start) where

@@ -69,9 +69,26 @@ pub(crate) fn combine(code: Code, first: &[u8], second: &[u8], out: &mut [u8])
     requires room { (shape_for code.t code.r).places - code.s ≤ length out.old }
     ensures { let h = shape_for code.t code.r in out.new ≡ shortened_combine (moduli h.a h.b) code.s first.now second.now ++ drop (h.places - code.s) out.old }
 {
-    let Ends { part, message, units, places } = Ends::of(code);
+    let Ends {
+        part,
+        message,
+        units,
+        places,
+    } = Ends::of(code);
     singles(&first[..part], &second[..part], &mut out[..part]);
-    pairs(&first[part..message], &second[part..message], &mut out[part..message]);
-    singles(&first[message..units], &second[message..units], &mut out[message..units]);
-    pairs(&first[units..places], &second[units..places], &mut out[units..places]);
+    pairs(
+        &first[part..message],
+        &second[part..message],
+        &mut out[part..message],
+    );
+    singles(
+        &first[message..units],
+        &second[message..units],
+        &mut out[message..units],
+    );
+    pairs(
+        &first[units..places],
+        &second[units..places],
+        &mut out[units..places],
+    );
 }

@@ -47,7 +47,7 @@ returns-then-has_room c =
 pub returns-else-fits_word : goal.returns-else-fits_word
 returns-else-fits_word c =
     elim c.else-fits_word.branch [
-      else-fits_word-via-then-fits_word+then-fits_word-2+else-has_room w ↦
+      | else-fits_word-via-then-fits_word+then-fits_word-2+else-has_room w ↦
           let y = sym c.fits_word.ensures ∙ w.if-fits_word.true in
           combine-narrow _ _ _ _ _ _ y (sym w.fits_word-then-fits_word.ensures ∙ w.if-fits_word-2.true)
           (no_room _ _ _ _ _ w.has_room.ensures (word-allowed _ _ _ _ y) w.if-has_room.false)

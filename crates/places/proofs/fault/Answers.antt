@@ -10,6 +10,6 @@ returns-then-fits_word c = c.fault_of.ensures ∙ fault-at _ _ _ _ c.args.word.n
 pub returns-else-not-is_zero : goal.returns-else-not-is_zero
 returns-else-not-is_zero c =
     elim c.else-not-is_zero.branch [
-      else-not-is_zero-via-then-not-is_zero+else-fits_word w ↦ fault-at-none _ _ _ _ c.args.word.now (sym w.fits_word.ensures ∙ w.if-fits_word.false)
+      | else-not-is_zero-via-then-not-is_zero+else-fits_word w ↦ fault-at-none _ _ _ _ c.args.word.now (sym w.fits_word.ensures ∙ w.if-fits_word.false)
       | else-not-is_zero-via-else-not-is_zero w ↦ fault-at-zero _ _ _ _ c.args.word.now (sym c.is_zero.ensures ∙ w.if-not-is_zero.false)
     ]

@@ -43,7 +43,7 @@ returns-then-has_room c =
 pub returns-else-fits_word : goal.returns-else-fits_word
 returns-else-fits_word c =
     elim c.else-fits_word.branch [
-      else-fits_word-via-then-fits_word+else-has_room w ↦
+      | else-fits_word-via-then-fits_word+else-has_room w ↦
           let y = sym c.fits_word.ensures ∙ w.if-fits_word.true in
           invert_narrow _ _ _ _ _ y (no_room _ _ _ _ _ w.has_room.ensures (word-allowed _ _ _ _ y) w.if-has_room.false)
       | else-fits_word-via-else-fits_word w ↦ invert-none _ _ _ _ _ (sym c.fits_word.ensures ∙ w.if-fits_word.false)

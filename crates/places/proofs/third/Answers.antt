@@ -21,7 +21,7 @@ returns-then-i-j c =
 pub returns-else-is_place : goal.returns-else-is_place
 returns-else-is_place c =
     elim c.else-is_place.branch [
-      else-is_place-via-then-is_place+then-is_place-2+else-i-j w ↦ third-equal _ _ _ _ c.shape-n.result c.shape-n.ensures w.if-i-j.false
+      | else-is_place-via-then-is_place+then-is_place-2+else-i-j w ↦ third-equal _ _ _ _ c.shape-n.result c.shape-n.ensures w.if-i-j.false
       | else-is_place-via-then-is_place+else-is_place-2 w ↦
           third-second-out _ _ _ _ c.shape-n.result c.shape-n.ensures (sym w.is_place-then-is_place.ensures ∙ w.if-is_place-2.false)
       | else-is_place-via-else-is_place w ↦ third-first-out _ _ _ _ c.shape-n.result c.shape-n.ensures (sym c.is_place.ensures ∙ w.if-is_place.false)

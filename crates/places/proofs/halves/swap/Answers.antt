@@ -37,8 +37,8 @@ kept : (c : After-other_index) → c.args.code.s ≤ c.other_index.result
 kept c =
     (index_kept c.shape-h.result c.args.code.s (cut (goal.at.After-other_index c).After-shape-h) c.args.word.now c.loop-i.i c.other_index.result (inside (goal.at.After-other_index c).In-loop-i) c.other_index.ensures.at).0
 
-pub overflow_sub-out : goal.overflow_sub-out
-overflow_sub-out c = kept c
+pub overflow_sub-j : goal.overflow_sub-j
+overflow_sub-j c = kept c
 
 pub loop-i-preserved : goal.loop-i-preserved
 loop-i-preserved c =
