@@ -23,11 +23,9 @@ pub(crate) fn fault_of(code: Code, e: Element, word: &[u8]) -> u32
         return p;
     }
     let k = other_half(code, p);
-    if word[(p - s - 1) as usize] == word[(k - s - 1) as usize] {
-        p
-    } else {
-        k
-    }
+    let b = word[(p - s - 1) as usize];
+    let c = word[(k - s - 1) as usize];
+    if b == c { p } else { k }
 }
 
 // The place of minus e: the other half of the place of e, which is quicker told than minus e is made. An e that no

@@ -19,17 +19,17 @@ kept c = fault-kept-of _ _ _ _ c.args.word.now c.requires _ c.negative_place-p.e
 pub bounds-word-p : goal.bounds-word-p
 bounds-word-p c = (kept (goal.at.bounds-word-p c).After-other_half-k).place
 
-pub overflow_sub-k : goal.overflow_sub-k
-overflow_sub-k c = let k = (kept (goal.at.overflow_sub-k c).After-other_half-k).left in search rules
+pub overflow_sub-c : goal.overflow_sub-c
+overflow_sub-c c = let k = (kept (goal.at.overflow_sub-c c).After-other_half-k).left in search rules
 
-pub overflow_sub-k-2 : goal.overflow_sub-k-2
-overflow_sub-k-2 c = let k = (kept (goal.at.overflow_sub-k-2 c).After-other_half-k).left in search rules
+pub overflow_sub-c-2 : goal.overflow_sub-c-2
+overflow_sub-c-2 c = let k = (kept (goal.at.overflow_sub-c-2 c).After-other_half-k).left in search rules
 
 pub bounds-word-k : goal.bounds-word-k
 bounds-word-k c = (kept (goal.at.bounds-word-k c).After-other_half-k).half
 
-pub returns-then-word-p : goal.returns-then-word-p
-returns-then-word-p c = (kept (goal.at.returns-then-word-p c).After-other_half-k).first c.if-word-p.true
+pub returns-then-b-c : goal.returns-then-b-c
+returns-then-b-c c = (kept (goal.at.returns-then-b-c c).After-other_half-k).first c.if-b-c.true
 
-pub returns-else-word-p : goal.returns-else-word-p
-returns-else-word-p c = (kept (goal.at.returns-else-word-p c).After-other_half-k).second c.if-word-p.false
+pub returns-else-b-c : goal.returns-else-b-c
+returns-else-b-c c = (kept (goal.at.returns-else-b-c c).After-other_half-k).second c.if-b-c.false
