@@ -1,13 +1,7 @@
 -- What the loop of `combining::sums::pairs` keeps true.
-use mathlib.Core.Path.{◌≡◌}
-use Prim.Native.Nat.{◌-◌, ◌%◌, ◌≤◌}
-use lib.ListN.{length}
-use Rattle.loops_theory.specs.Writing.{Onward, SumsFour}
+use Prim.Native.Nat.{◌*◌}
+use Rattle.loops_theory.specs.Writing.{SumsFour}
 use Rattle.combining.proofs.sums.pairs.Given as goal
 
-abbrev pub invariant-loop-i : goal.invariant-loop-i
-invariant-loop-i l =
-    (l.start ≤ l.i) × (l.i ≤ l.end) × ((l.i - l.start) % 2 ≡ 0) × (length l.out ≡ length l.initial.out) × Onward (SumsFour l.first l.second l.start l.i) l.start l.i l.initial.out l.out
-
-abbrev pub decreases-loop-i : goal.decreases-loop-i
-decreases-loop-i l = l.end - l.i
+abbrev pub invariant-loop-k : goal.invariant-loop-k
+invariant-loop-k l = SumsFour l.first l.second 0 (2 * l.k) l.out
