@@ -35,35 +35,30 @@ impl<'a> Call<'a> {
             b"word_length" => Call::WordLength(f.record()?),
             b"message_length" => Call::MessageLength(f.record()?),
             b"third_place" => Call::ThirdPlace(f.record()?, f.number()?, f.number()?),
-            b"syndrome" => Call::Syndrome(f.record()?, f.word(&mut rooms.first)?),
-            b"is_codeword" => Call::IsCodeword(f.record()?, f.word(&mut rooms.first)?),
-            b"read_message" => Call::ReadMessage(f.record()?, f.word(&mut rooms.first)?),
-            b"ask" => Call::Ask(f.record()?, f.word(&mut rooms.first)?),
-            b"encode" => Call::Encode(
-                f.record()?,
-                f.word(&mut rooms.first)?,
-                f.output(&mut rooms.out)?,
-            ),
-            b"correct" => Call::Correct(
-                f.record()?,
-                f.word(&mut rooms.first)?,
-                f.output(&mut rooms.out)?,
-            ),
-            b"combine" => Call::Combine(
-                f.record()?,
-                f.word(&mut rooms.first)?,
-                f.word(&mut rooms.second)?,
-                f.output(&mut rooms.out)?,
-            ),
-            b"invert" => Call::Invert(
-                f.record()?,
-                f.word(&mut rooms.first)?,
-                f.output(&mut rooms.out)?,
-            ),
             b"commit" => Call::Commit(f.record()?, f.number()?, f.output(&mut rooms.out)?),
-            _ => return None,
+            name => Call::on_word(name, &mut f, rooms)?,
         };
         f.is_read().then_some(call)
+    }
+
+    // Of the calls that read a word, which all have it after a record.
+    fn on_word(name: &[u8], f: &mut Fields<'_>, rooms: &'a mut Rooms) -> Option<Self> {
+        let record = f.record()?;
+        let word = f.word(&mut rooms.first)?;
+        Some(match name {
+            b"syndrome" => Call::Syndrome(record, word),
+            b"is_codeword" => Call::IsCodeword(record, word),
+            b"read_message" => Call::ReadMessage(record, word),
+            b"ask" => Call::Ask(record, word),
+            b"encode" => Call::Encode(record, word, f.output(&mut rooms.out)?),
+            b"correct" => Call::Correct(record, word, f.output(&mut rooms.out)?),
+            b"invert" => Call::Invert(record, word, f.output(&mut rooms.out)?),
+            b"combine" => {
+                let second = f.word(&mut rooms.second)?;
+                Call::Combine(record, word, second, f.output(&mut rooms.out)?)
+            }
+            _ => return None,
+        })
     }
 
     // Makes the call and prints its answer; tells the record that it returned, if it returned one.
