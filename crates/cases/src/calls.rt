@@ -29,7 +29,7 @@ impl<'a> Call<'a> {
     // The call that a line names, its words and output put in rooms; nothing where the line is malformed.
     pub(crate) fn read(line: &[u8], last: Record, rooms: &'a mut Rooms) -> Option<Self> {
         let mut f = Fields::new(line, last);
-        let call = match f.next()? {
+        let call = match f.field()? {
             b"open" => Call::Open(f.number()?, f.number()?, f.number()?),
             b"element_at" => Call::ElementAt(f.record()?, f.number()?),
             b"word_length" => Call::WordLength(f.record()?),

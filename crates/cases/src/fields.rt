@@ -1,5 +1,5 @@
-// The fields of a line, one space between them, read one after the other. Each is nothing where the line has none, or
-// one of another form.
+// The fields of a line, one space between them, read one after the other. A reading gives nothing where no field is left,
+// or one of another form.
 use crate::numbers::{decimal, listed};
 use crate::words::{Room, bytes};
 use coder::Record;
@@ -25,7 +25,7 @@ impl<'a> Fields<'a> {
         }
     }
 
-    pub(crate) fn next(&mut self) -> Option<&'a [u8]> {
+    pub(crate) fn field(&mut self) -> Option<&'a [u8]> {
         let line = self.rest?;
         let Some((field, rest)) = split_once(line, b' ') else {
             self.rest = None;
@@ -36,11 +36,11 @@ impl<'a> Fields<'a> {
     }
 
     pub(crate) fn number(&mut self) -> Option<u32> {
-        decimal(self.next()?)
+        decimal(self.field()?)
     }
 
     pub(crate) fn record(&mut self) -> Option<Record> {
-        match self.next()?.strip_prefix(b"(")?.strip_suffix(b")")? {
+        match self.field()?.strip_prefix(b"(")?.strip_suffix(b")")? {
             b"last" => Some(self.last),
             numbers => listed(numbers),
         }
@@ -48,13 +48,13 @@ impl<'a> Fields<'a> {
 
     // The word, put in a room.
     pub(crate) fn word<'r>(&mut self, room: &'r mut Room) -> Option<&'r [u8]> {
-        let text = self.next()?.strip_prefix(b"[")?.strip_suffix(b"]")?;
+        let text = self.field()?.strip_prefix(b"[")?.strip_suffix(b"]")?;
         Some(bytes(text, room)?)
     }
 
     // What an output holds before the call, put in a room.
     pub(crate) fn output<'r>(&mut self, room: &'r mut Room) -> Option<&'r mut [u8]> {
-        bytes(self.next()?.strip_prefix(b"{")?.strip_suffix(b"}")?, room)
+        bytes(self.field()?.strip_prefix(b"{")?.strip_suffix(b"}")?, room)
     }
 
     // Whether nothing is left.

@@ -27,14 +27,17 @@ impl fmt::Display for Counts {
 
 // An answer as C has it, and after it the place in a refusal, which C is not told.
 #[derive(Drop)]
-struct Told(u32, u32);
+struct Told {
+    refusal: u32,
+    place: u32,
+}
 
 impl fmt::Display for Told {
     fn fmt<W: fmt::Write>(&self, f: &mut fmt::Formatter<W>) -> fmt::Result {
         match *self {
-            Told(0, place) => write!(f, " {place}"),
-            Told(refusal, 0) => write!(f, " -{refusal}"),
-            Told(refusal, place) => write!(f, " -{refusal} at {place}"),
+            Told { refusal: 0, place } => write!(f, " {place}"),
+            Told { refusal, place: 0 } => write!(f, " -{refusal}"),
+            Told { refusal, place } => write!(f, " -{refusal} at {place}"),
         }
     }
 }
@@ -85,7 +88,7 @@ fn same(code: Record, a: Answer) -> Corrected {
     }
 }
 
-// The calls in one code; an output has `room` bytes.
+// The calls in one code, each of which prints its line; an output has `room` bytes.
 #[derive(Drop)]
 pub(crate) struct Calls<'a, R> {
     rt: &'a R,
@@ -109,7 +112,8 @@ impl<'a, R: Print> Calls<'a, R> {
         }
     }
 
-    // A call with an output of its own, that is not looked at again.
+    // A call with an output of its own, that is not looked at again. No room is longer; that the call is left out
+    // then spares a proof of it.
     fn write<F: FnOnce(Record, &mut [u8]) -> Corrected>(
         &self,
         name: &str,
@@ -124,8 +128,7 @@ impl<'a, R: Print> Calls<'a, R> {
         }
     }
 
-    // What an accepted call must have written: n places, and nothing after them. What a refused call must have
-    // written: nothing. And the counts where the call counted: no code's record has any before.
+    // The answer and the output of a call, and the counts where it counted: no code's record has any before.
     fn write_to<F: FnOnce(Record, &mut [u8]) -> Corrected>(
         &self,
         name: &str,
@@ -134,15 +137,21 @@ impl<'a, R: Print> Calls<'a, R> {
     ) -> io::Result<()>
         requires { F.IsAlwaysCallable call }
     {
-        let a = call(self.code, out);
-        print!(self.rt; "{name}{}", Told(a.refusal, a.place))?;
-        self.outcome(a.refusal, out)?;
-        if a.record.words != 0 {
-            print!(self.rt; "{}", Counts(a.record))?;
+        let Corrected {
+            refusal,
+            place,
+            record,
+        } = call(self.code, out);
+        print!(self.rt; "{name}{}", Told { refusal, place })?;
+        self.outcome(refusal, out)?;
+        if record.words != 0 {
+            print!(self.rt; "{}", Counts(record))?;
         }
         println!(self.rt)
     }
 
+    // What an accepted call must have written: n places, and nothing after them. What a refused call must have
+    // written: nothing.
     fn outcome(&self, refusal: u32, out: &[u8]) -> io::Result<()> {
         if refusal != 0 {
             let kept = if out.iter().all(|b| *b == 7) {
@@ -205,11 +214,11 @@ impl<'a, R: Print> Calls<'a, R> {
 
     pub(crate) fn third(&self, i: u32, j: u32) -> io::Result<()> {
         let code = self.code;
-        let a = match code.s {
+        let Answer { refusal, place } = match code.s {
             0 => taken(z2z4::z2z4_third_place(code.t, code.r, i, j)),
             _ => coder::third_place(code, i, j),
         };
-        println!(self.rt; "third{}", Told(a.refusal, a.place))
+        println!(self.rt; "third{}", Told { refusal, place })
     }
 
     pub(crate) fn syndrome(&self, word: &[u8]) -> io::Result<()> {

@@ -54,8 +54,8 @@ fn open(rt: &impl Print, t: u32, r: u32) -> io::Result<()>
     Ok(())
 }
 
-// Three rounds of a code and twelve s; with t = 11 and 12, whose words are long, one round and ten s, so that the
-// whole text can still be read.
+// Three rounds of a code and twelve s, of which three are drawn; with t = 11 and 12, whose words are long, one round
+// and one drawn s, so that the whole text can still be read.
 fn rounds(rt: &impl Print, code: Record, draw: &mut Draw) -> io::Result<()> {
     let (own, shortened) = if code.t > 10 { (1, 10) } else { (3, 12) };
     for _ in 0..own {
