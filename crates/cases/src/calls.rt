@@ -1,101 +1,92 @@
-// The table of calls: the forms of lines, a name with the brackets and numbers that it is given, and in the same
-// order the calls, each in what prints its answer. A new call adds a line to both. The table is in parts, since the
-// check of a function grows faster than its length.
-use crate::fields::{is_of, until};
-use crate::lines::Turn;
-use crate::numbers::Given;
+// The calls, each with its arguments: how a line names it, and what prints its answer. A new call adds a line to all
+// three tables.
+use crate::fields::Fields;
 use crate::print::{corrected, element, number, opened, shown, tested, told, wrote};
+use crate::words::Rooms;
+use coder::Record;
 use std::io;
 
-// How many forms of a list, each ended by a semicolon, come before the one that a line has; all of them where it
-// has none.
-fn form(line: &[u8], forms: &[u8]) -> u32 {
-    let mut before: u32 = 0;
-    let mut at: usize = 0;
-    while at < forms.len() {
-        let end = until(forms, at, b';');
-        if is_of(line, &forms[at..end]) {
-            return before;
+// To commit, the output is the word itself.
+#[derive(Drop)]
+pub(crate) enum Call<'a> {
+    Open(u32, u32, u32),
+    ElementAt(Record, u32),
+    WordLength(Record),
+    MessageLength(Record),
+    ThirdPlace(Record, u32, u32),
+    Syndrome(Record, &'a [u8]),
+    IsCodeword(Record, &'a [u8]),
+    ReadMessage(Record, &'a [u8]),
+    Ask(Record, &'a [u8]),
+    Encode(Record, &'a [u8], &'a mut [u8]),
+    Correct(Record, &'a [u8], &'a mut [u8]),
+    Combine(Record, &'a [u8], &'a [u8], &'a mut [u8]),
+    Invert(Record, &'a [u8], &'a mut [u8]),
+    Commit(Record, u32, &'a mut [u8]),
+}
+
+impl<'a> Call<'a> {
+    // The call that a line names, its words and output put in rooms; nothing where the line is malformed.
+    pub(crate) fn read(line: &[u8], last: Record, rooms: &'a mut Rooms) -> Option<Self> {
+        let mut f = Fields::new(line, last);
+        let call = match f.field()? {
+            b"open" => Call::Open(f.number()?, f.number()?, f.number()?),
+            b"element_at" => Call::ElementAt(f.record()?, f.number()?),
+            b"word_length" => Call::WordLength(f.record()?),
+            b"message_length" => Call::MessageLength(f.record()?),
+            b"third_place" => Call::ThirdPlace(f.record()?, f.number()?, f.number()?),
+            b"commit" => Call::Commit(f.record()?, f.number()?, f.output(&mut rooms.out)?),
+            name => Call::on_word(name, &mut f, rooms)?,
+        };
+        f.is_read().then_some(call)
+    }
+
+    // Of the calls that read a word, which all have it after a record.
+    fn on_word(name: &[u8], f: &mut Fields<'_>, rooms: &'a mut Rooms) -> Option<Self> {
+        let record = f.record()?;
+        let word = f.word(&mut rooms.first)?;
+        Some(match name {
+            b"syndrome" => Call::Syndrome(record, word),
+            b"is_codeword" => Call::IsCodeword(record, word),
+            b"read_message" => Call::ReadMessage(record, word),
+            b"ask" => Call::Ask(record, word),
+            b"encode" => Call::Encode(record, word, f.output(&mut rooms.out)?),
+            b"correct" => Call::Correct(record, word, f.output(&mut rooms.out)?),
+            b"invert" => Call::Invert(record, word, f.output(&mut rooms.out)?),
+            b"combine" => {
+                let second = f.word(&mut rooms.second)?;
+                Call::Combine(record, word, second, f.output(&mut rooms.out)?)
+            }
+            _ => return None,
+        })
+    }
+
+    // Makes the call and prints its answer; tells the record that it returned, if it returned one.
+    pub(crate) fn answer(self, rt: &impl Print) -> io::Result<Option<Record>> {
+        match self {
+            Call::Open(t, r, s) => return opened(rt, coder::open(t, r, s)),
+            Call::Correct(record, word, out) => {
+                return corrected(rt, coder::correct(record, word, out), out);
+            }
+            Call::Commit(record, place, word) => {
+                return corrected(rt, coder::commit(record, place, word), word);
+            }
+            Call::ElementAt(record, place) => element(rt, coder::element_at(record, place))?,
+            Call::WordLength(record) => number(rt, coder::word_length(record))?,
+            Call::MessageLength(record) => number(rt, coder::message_length(record))?,
+            Call::ThirdPlace(record, i, j) => told(rt, coder::third_place(record, i, j))?,
+            Call::Syndrome(record, word) => element(rt, coder::syndrome(record, word))?,
+            Call::IsCodeword(record, word) => tested(rt, coder::is_codeword(record, word))?,
+            Call::ReadMessage(record, word) => shown(rt, coder::read_message(record, word))?,
+            Call::Ask(record, word) => told(rt, coder::ask(record, word))?,
+            Call::Encode(record, message, out) => {
+                wrote(rt, coder::encode(record, message, out), out)?;
+            }
+            Call::Combine(record, first, second, out) => {
+                wrote(rt, coder::combine(record, first, second, out), out)?;
+            }
+            Call::Invert(record, word, out) => wrote(rt, coder::invert(record, word, out), out)?,
         }
-        // Wraps round so that no bound has to be shown; no list is that long.
-        before = std::num::wrapping_add_u32(before, 1);
-        at = end + 1;
-    }
-    before
-}
-
-// Calls without a word.
-pub(crate) fn answer(
-    rt: &impl Print,
-    line: &[u8],
-    g: Given,
-    first: &[u8],
-    second: &[u8],
-    out: &mut [u8],
-) -> io::Result<Turn> {
-    match form(
-        line,
-        b"open 0 0 0;\
-        element_at () 0;\
-        word_length ();\
-        message_length ();\
-        third_place () 0 0;",
-    ) {
-        0 => opened(rt, coder::open(g.one, g.two, g.three)),
-        1 => element(rt, coder::element_at(g.record, g.two)),
-        2 => number(rt, coder::word_length(g.record)),
-        3 => number(rt, coder::message_length(g.record)),
-        4 => told(rt, coder::third_place(g.record, g.two, g.three)),
-        _ => on_word(rt, line, g, first, second, out),
-    }
-}
-
-// Calls that read a word.
-fn on_word(
-    rt: &impl Print,
-    line: &[u8],
-    g: Given,
-    first: &[u8],
-    second: &[u8],
-    out: &mut [u8],
-) -> io::Result<Turn> {
-    match form(
-        line,
-        b"syndrome () [];\
-        is_codeword () [];\
-        read_message () [];\
-        ask () [];",
-    ) {
-        0 => element(rt, coder::syndrome(g.record, first)),
-        1 => tested(rt, coder::is_codeword(g.record, first)),
-        2 => shown(rt, coder::read_message(g.record, first)),
-        3 => told(rt, coder::ask(g.record, first)),
-        _ => with_output(rt, line, g, first, second, out),
-    }
-}
-
-// Calls that write an output; to commit it is the word itself.
-fn with_output(
-    rt: &impl Print,
-    line: &[u8],
-    g: Given,
-    first: &[u8],
-    second: &[u8],
-    out: &mut [u8],
-) -> io::Result<Turn> {
-    match form(
-        line,
-        b"encode () [] {};\
-        correct () [] {};\
-        combine () [] [] {};\
-        invert () [] {};\
-        commit () 0 {};",
-    ) {
-        0 => wrote(rt, coder::encode(g.record, first, out), out),
-        1 => corrected(rt, coder::correct(g.record, first, out), out),
-        2 => wrote(rt, coder::combine(g.record, first, second, out), out),
-        3 => wrote(rt, coder::invert(g.record, first, out), out),
-        4 => corrected(rt, coder::commit(g.record, g.two, out), out),
-        _ => Ok(Turn::Malformed),
+        Ok(None)
     }
 }

@@ -10,19 +10,23 @@ mod numbers;
 mod print;
 mod words;
 
-use crate::lines::Turn;
+use crate::lines::{ROOM, answered, next};
 use std::io;
 
 fn main(rt: HostRuntime) -> io::Result<()> {
     let mut input = rt.stdin();
-    let mut last = numbers::closed();
+    // The record that the last call returned. No call did yet, and the closed record, which a refused opening
+    // gives, stands for it.
+    let mut last = coder::open(0, 0, 0).record;
     // Nothing says that the input ends: the count of lines has to.
     for number in 1..u32::MAX {
-        match lines::next(&rt, &mut input, last)? {
-            Turn::Returned(record) => last = record,
-            Turn::Answered => (),
-            Turn::Malformed => return print::malformed(&rt, number),
-            Turn::End => return Ok(()),
+        let mut room = [0u8; ROOM];
+        let Some(line) = next(&mut input, &mut room) else {
+            return Ok(());
+        };
+        match answered(&rt, line, last)? {
+            Some(record) => last = record,
+            None => return println!(rt; " line {number} is malformed"),
         }
         println!(rt)?;
     }

@@ -1,40 +1,47 @@
 // Words and outputs, as a line has them: a digit a byte, or a number in angle brackets.
-use crate::fields::past;
-use crate::numbers::{MOST, decimal};
+use crate::fields::split_once;
+use crate::lines::ROOM;
+use crate::numbers::decimal;
 
-// Puts the bytes of a word at the start of a room, and tells how many; more than there is room for where the word is
-// malformed.
-pub(crate) fn put(s: &[u8], room: &mut [u8]) -> usize {
-    let mut n: usize = 0;
-    let mut at: usize = 0;
-    while at < s.len() {
-        let end = past(s, at);
-        if end > s.len() {
-            return room.len() + 1;
-        }
-        let v = value(&s[at..end]);
-        if v > 255 {
-            return room.len() + 1;
-        }
-        // This does not happen: a word is shorter than its line, and a line than the room.
-        if n >= room.len() {
-            return room.len() + 1;
-        }
-        room[n] = v as u8;
-        n += 1;
-        at = end;
-    }
-    n
+// The room for a word or an output.
+pub(crate) type Room = [u8; ROOM];
+
+// The rooms for the words and the output of a call.
+#[derive(Drop)]
+pub(crate) struct Rooms {
+    pub(crate) first: Room,
+    pub(crate) second: Room,
+    pub(crate) out: Room,
 }
 
-// The value of a digit, or of a number in angle brackets; more than any byte's for anything else.
-fn value(s: &[u8]) -> u64 {
-    let n = s.len();
-    if n < 3 {
-        return decimal(s);
+impl Rooms {
+    pub(crate) fn new() -> Self {
+        Rooms {
+            first: [0; ROOM],
+            second: [0; ROOM],
+            out: [0; ROOM],
+        }
     }
-    if s[0] != b'<' {
-        return MOST;
+}
+
+// The byte that a text begins with, and the text after it.
+fn first_byte(text: &[u8]) -> Option<(u8, &[u8])> {
+    let (number, rest) = match text.strip_prefix(b"<") {
+        Some(inside) => split_once(inside, b'>')?,
+        None => text.split_at_checked(1)?,
+    };
+    Some((u8::try_from(decimal(number)?).ok()?, rest))
+}
+
+// The bytes of a text, put at the start of a room. None is too short: a text is shorter than its line, and a line than
+// the room.
+pub(crate) fn bytes<'r>(text: &[u8], room: &'r mut Room) -> Option<&'r mut [u8]> {
+    let mut rest = text;
+    for n in 0..room.len() {
+        if rest.is_empty() {
+            return Some(&mut room[..n]);
+        }
+        (room[n], rest) = first_byte(rest)?;
     }
-    decimal(&s[1..n - 1])
+    None
 }

@@ -1,32 +1,32 @@
-// What stands in one line for many answers: counts, and a digest of a list of numbers, which is a number that
-// has them, each one more, as its digits to the base 48271, modulo 2^31 - 1; its first digit is 1.
+// What stands in one line for many answers: a digest of a list of numbers, which is a number that has them, each
+// one more, as its digits to the base 48271, modulo 2^31 - 1; its first digit is 1.
+use std::fmt;
 
-// The digest with one number more.
-pub(crate) fn fold(x: u32, v: u32) -> u32 {
-    ((x as u64 * 48271 + v as u64 + 1) % 2147483647) as u32
-}
+#[derive(Drop)]
+pub(crate) struct Digest(u32);
 
-fn wide(b: u8) -> u32 {
-    b as u32
-}
-
-// The digest with each byte of w.
-pub(crate) fn fold_bytes(start: u32, w: &[u8]) -> u32 {
-    let mut x = start;
-    let mut i: usize = 0;
-    while i < w.len() {
-        x = fold(x, wide(w[i]));
-        i += 1;
+impl Digest {
+    // Of no numbers.
+    pub(crate) fn new() -> Self {
+        Digest(1)
     }
-    x
+
+    // Takes one number more.
+    pub(crate) fn add(&mut self, v: u32) {
+        self.0 = ((u64::from(self.0) * 48271 + u64::from(v) + 1) % 2147483647) as u32;
+    }
+
+    // Takes each byte of w.
+    pub(crate) fn add_bytes(&mut self, w: &[u8]) {
+        for b in w {
+            self.add(u32::from(*b));
+        }
+    }
 }
 
-// A count with one more where it is to be counted. No count comes near the end of its type; that it would wrap
-// spares a proof.
-pub(crate) fn count(n: u32, yes: bool) -> u32 {
-    if yes {
-        std::num::wrapping_add_u32(n, 1)
-    } else {
-        n
+impl fmt::Display for Digest {
+    fn fmt<W: fmt::Write>(&self, f: &mut fmt::Formatter<W>) -> fmt::Result {
+        let x = self.0;
+        write!(f, "{x}")
     }
 }

@@ -1,165 +1,81 @@
 // A line for each call: its name, its answer, and what became of its output. The output holds sevens
-// before the call, and no call writes a seven, so that a byte that was written shows. `room` is the
-// number of its bytes. Where s is 0, the calls for C are made, of those that there are for C; the calls for
-// C have no s, and in a shortened code the coder's are made.
-ghost use Rattle.std.specs.Prelude.{◌<◌};
-
-use crate::alter::{all, at, front};
+// before the call, and no call writes a seven, so that a byte that was written shows. Where s is 0, the calls for C
+// are made, of those that there are for C; the calls for C have no s, and in a shortened code the coder's are made.
+use crate::alter::front;
 use coder::{Answer, Corrected, Opened, Record};
-use std::io;
+use std::{fmt, io};
 
-// The calls that write an output.
+// The counts of a record.
 #[derive(Drop)]
-enum Call {
-    Encode,
-    Correct,
-    Combine,
-    Inverse,
+pub(crate) struct Counts(pub(crate) Record);
+
+impl fmt::Display for Counts {
+    fn fmt<W: fmt::Write>(&self, f: &mut fmt::Formatter<W>) -> fmt::Result {
+        let Record {
+            words,
+            clean,
+            corrected_binary,
+            corrected_pairs,
+            ..
+        } = self.0;
+        write!(
+            f,
+            " counts {words} {clean} {corrected_binary} {corrected_pairs}"
+        )
+    }
 }
 
-// The place in an answer of a C call; 0 for none, and in a refusal.
-fn place(a: i32) -> u32 {
-    if a > 0 { a as u32 } else { 0 }
+// An answer as C has it, and after it the place in a refusal, which C is not told.
+#[derive(Drop)]
+struct Told {
+    refusal: u32,
+    place: u32,
 }
 
-// The refusal in an answer of a C call; 7, which no call for C gives, for any other answer.
-fn refusal(a: i32) -> u32 {
-    if a >= 0 {
-        return 0;
+impl fmt::Display for Told {
+    fn fmt<W: fmt::Write>(&self, f: &mut fmt::Formatter<W>) -> fmt::Result {
+        match *self {
+            Told { refusal: 0, place } => write!(f, " {place}"),
+            Told { refusal, place: 0 } => write!(f, " -{refusal}"),
+            Told { refusal, place } => write!(f, " -{refusal} at {place}"),
+        }
     }
-    match a {
-        -1 => 1,
-        -2 => 2,
-        -3 => 3,
-        -4 => 4,
-        -5 => 5,
-        -6 => 6,
-        _ => 7,
+}
+
+// A word in hexadecimal.
+#[derive(Drop)]
+struct Hex<'a>(&'a [u8]);
+
+impl fmt::Display for Hex<'_> {
+    fn fmt<W: fmt::Write>(&self, f: &mut fmt::Formatter<W>) -> fmt::Result {
+        for places in self.0.chunks(4) {
+            let digit = hex_digit(places);
+            write!(f, "{digit}")?;
+        }
+        Ok(())
     }
+}
+
+// The digit of four places, the earlier place the higher bit; places past the end are 0.
+fn hex_digit(places: &[u8]) -> char {
+    (0..4)
+        .try_fold(0u32, |v, i| match places.get(i) {
+            None | Some(0) => Some(v << 1),
+            Some(1) => Some(v << 1 | 1),
+            Some(_) => None,
+        })
+        .and_then(|v| char::from_digit(v, 16))
+        .unwrap_or('?')
 }
 
 // An answer of a C call, taken apart.
 fn taken(a: i32) -> Answer {
-    Answer {
-        refusal: refusal(a),
-        place: place(a),
-    }
-}
-
-// The answer as C has it, and after it the place in a refusal, which C is not told.
-fn told(rt: &impl Print, refusal: u32, place: u32) -> io::Result<()> {
-    if refusal == 0 {
-        return print!(rt; " {place}");
-    }
-    if place == 0 {
-        return print!(rt; " -{refusal}");
-    }
-    print!(rt; " -{refusal} at {place}")
-}
-
-pub(crate) fn counts(rt: &impl Print, code: Record) -> io::Result<()> {
-    print!(rt;
-        " counts {} {} {} {}",
-        code.words, code.clean, code.corrected_binary, code.corrected_pairs
-    )
-}
-
-// The digit of the four places from index i on, the earlier place the higher bit. The remainders change
-// nothing: they bound the sum without a proof that goes by the test.
-fn hex_digit(w: &[u8], i: usize) -> u8
-    requires { i < 4096 }
-{
-    let a = at(w, i);
-    let b = at(w, i + 1);
-    let c = at(w, i + 2);
-    let d = at(w, i + 3);
-    if 1 < a || 1 < b || 1 < c || 1 < d {
-        return b'?';
-    }
-    letter(8 * (a % 2) + 4 * (b % 2) + 2 * (c % 2) + d % 2)
-}
-
-fn letter(v: u8) -> u8
-    requires { v < 16 }
-{
-    if v < 10 { b'0' + v } else { b'a' + (v - 10) }
-}
-
-// A word in hexadecimal. No word has more than the 4,096 places of 1,024 digits.
-fn hex(rt: &impl Print, w: &[u8]) -> io::Result<()> {
-    let mut digits = [0u8; 1024];
-    let mut i: usize = 0;
-    while i < 1024 {
-        if w.len() <= 4 * i {
-            break;
-        }
-        digits[i] = hex_digit(w, 4 * i);
-        i += 1;
-    }
-    print!(rt; " ")?;
-    rt.write_all(front(&digits, i))
-}
-
-// What an accepted call must have written: n places, and nothing after them.
-fn written(rt: &impl Print, out: &[u8], n: usize) -> io::Result<()> {
-    hex(rt, front(out, n))?;
-    if !all(out, n, 7) {
-        return print!(rt; " altered");
-    }
-    Ok(())
-}
-
-// What a refused call must have written: nothing.
-fn kept(rt: &impl Print, out: &[u8]) -> io::Result<()> {
-    if all(out, 0, 7) {
-        print!(rt; " untouched")
-    } else {
-        print!(rt; " altered")
-    }
-}
-
-// The answer and the output of a call, and the counts where it counted: no code's record has any before.
-fn outcome(rt: &impl Print, code: Record, a: Corrected, out: &[u8]) -> io::Result<()> {
-    let refusal = a.refusal;
-    let after = a.record;
-    told(rt, refusal, a.place)?;
-    if refusal == 0 {
-        written(rt, out, coder::word_length(code) as usize)?;
-    } else {
-        kept(rt, out)?;
-    }
-    if after.words != 0 {
-        counts(rt, after)?;
-    }
-    println!(rt)
-}
-
-fn called(call: Call, code: Record, first: &[u8], second: &[u8], out: &mut [u8]) -> Corrected {
-    let s = code.s;
-    if s == 0 {
-        return same(code, by_c(call, code, first, second, out));
-    }
-    by_coder(call, code, first, second, out)
-}
-
-// Only combining reads the second word.
-fn by_c(call: Call, code: Record, first: &[u8], second: &[u8], out: &mut [u8]) -> Answer {
-    let t = code.t;
-    let r = code.r;
-    match call {
-        Call::Encode => taken(z2z4::z2z4_encode(t, r, first, out)),
-        Call::Correct => taken(z2z4::z2z4_correct(t, r, first, out)),
-        Call::Combine => taken(z2z4::z2z4_combine(t, r, first, second, out)),
-        Call::Inverse => coder::invert(code, first, out),
-    }
-}
-
-fn by_coder(call: Call, code: Record, first: &[u8], second: &[u8], out: &mut [u8]) -> Corrected {
-    match call {
-        Call::Encode => same(code, coder::encode(code, first, out)),
-        Call::Correct => coder::correct(code, first, out),
-        Call::Combine => same(code, coder::combine(code, first, second, out)),
-        Call::Inverse => same(code, coder::invert(code, first, out)),
+    match u32::try_from(a) {
+        Ok(place) => Answer { refusal: 0, place },
+        Err(_) => Answer {
+            refusal: a.unsigned_abs(),
+            place: 0,
+        },
     }
 }
 
@@ -172,125 +88,166 @@ fn same(code: Record, a: Answer) -> Corrected {
     }
 }
 
-fn write(
-    rt: &impl Print,
-    call: Call,
+// The calls in one code, each of which prints its line; an output has `room` bytes.
+#[derive(Drop)]
+pub(crate) struct Calls<'a, R> {
+    rt: &'a R,
     code: Record,
-    first: &[u8],
-    second: &[u8],
-    out: &mut [u8],
-) -> io::Result<()> {
-    let a = called(call, code, first, second, out);
-    outcome(rt, code, a, out)
-}
-
-// With an output of its own, that is not looked at again.
-fn write_away(
-    rt: &impl Print,
-    call: Call,
-    code: Record,
-    first: &[u8],
-    second: &[u8],
     room: usize,
-) -> io::Result<()> {
-    let mut out = [7u8; 4097];
-    if room <= out.len() {
-        return write(rt, call, code, first, second, &mut out[..room]);
+}
+
+impl<'a, R: Print> Calls<'a, R> {
+    // An output has two bytes more than a word, to show that they are kept.
+    pub(crate) fn new(rt: &'a R, code: Record) -> Self {
+        let room = coder::word_length(code) as usize + 2;
+        Calls { rt, code, room }
     }
-    Ok(())
-}
 
-// With an output that the caller keeps.
-pub(crate) fn encode_to(
-    rt: &impl Print,
-    code: Record,
-    message: &[u8],
-    out: &mut [u8],
-) -> io::Result<()> {
-    print!(rt; "encode")?;
-    write(rt, Call::Encode, code, message, message, out)
-}
-
-pub(crate) fn encode(rt: &impl Print, code: Record, message: &[u8], room: usize) -> io::Result<()> {
-    print!(rt; "encode")?;
-    write_away(rt, Call::Encode, code, message, message, room)
-}
-
-pub(crate) fn correct(rt: &impl Print, code: Record, word: &[u8], room: usize) -> io::Result<()> {
-    print!(rt; "correct")?;
-    write_away(rt, Call::Correct, code, word, word, room)
-}
-
-pub(crate) fn combine(
-    rt: &impl Print,
-    code: Record,
-    first: &[u8],
-    second: &[u8],
-    room: usize,
-) -> io::Result<()> {
-    print!(rt; "combine")?;
-    write_away(rt, Call::Combine, code, first, second, room)
-}
-
-pub(crate) fn inverse(rt: &impl Print, code: Record, word: &[u8], room: usize) -> io::Result<()> {
-    print!(rt; "inverse")?;
-    write_away(rt, Call::Inverse, code, word, word, room)
-}
-
-// The message that is read, its length before it.
-pub(crate) fn read(rt: &impl Print, code: Record, word: &[u8]) -> io::Result<()> {
-    let m = coder::read_message(code, word);
-    print!(rt; "read {}", m.len())?;
-    if 0 < m.len() {
-        hex(rt, m)?;
+    // The same with outputs of so many bytes.
+    pub(crate) fn with_room(&self, room: usize) -> Self {
+        Calls {
+            rt: self.rt,
+            code: self.code,
+            room,
+        }
     }
-    println!(rt)
-}
 
-pub(crate) fn third(rt: &impl Print, code: Record, i: u32, j: u32) -> io::Result<()> {
-    let a = third_of(code, i, j);
-    print!(rt; "third")?;
-    told(rt, a.refusal, a.place)?;
-    println!(rt)
-}
-
-fn third_of(code: Record, i: u32, j: u32) -> Answer {
-    let s = code.s;
-    if s == 0 {
-        return taken(z2z4::z2z4_third_place(code.t, code.r, i, j));
+    // A call with an output of its own, that is not looked at again. No room is longer; that the call is left out
+    // then spares a proof of it.
+    fn write<F: FnOnce(Record, &mut [u8]) -> Corrected>(
+        &self,
+        name: &str,
+        call: F,
+    ) -> io::Result<()>
+        requires { F.IsAlwaysCallable call }
+    {
+        let mut out = [7u8; 4097];
+        match out.get_mut(..self.room) {
+            Some(out) => self.write_to(name, out, call),
+            None => Ok(()),
+        }
     }
-    coder::third_place(code, i, j)
+
+    // The answer and the output of a call, and the counts where it counted: no code's record has any before.
+    fn write_to<F: FnOnce(Record, &mut [u8]) -> Corrected>(
+        &self,
+        name: &str,
+        out: &mut [u8],
+        call: F,
+    ) -> io::Result<()>
+        requires { F.IsAlwaysCallable call }
+    {
+        let Corrected {
+            refusal,
+            place,
+            record,
+        } = call(self.code, out);
+        print!(self.rt; "{name}{}", Told { refusal, place })?;
+        self.outcome(refusal, out)?;
+        if record.words != 0 {
+            print!(self.rt; "{}", Counts(record))?;
+        }
+        println!(self.rt)
+    }
+
+    // What an accepted call must have written: n places, and nothing after them. What a refused call must have
+    // written: nothing.
+    fn outcome(&self, refusal: u32, out: &[u8]) -> io::Result<()> {
+        if refusal != 0 {
+            let kept = if out.iter().all(|b| *b == 7) {
+                "untouched"
+            } else {
+                "altered"
+            };
+            return print!(self.rt; " {kept}");
+        }
+        let n = coder::word_length(self.code) as usize;
+        print!(self.rt; " {}", Hex(front(out, n)))?;
+        if !out.iter().skip(n).all(|b| *b == 7) {
+            print!(self.rt; " altered")?;
+        }
+        Ok(())
+    }
+
+    // With an output that the caller keeps.
+    pub(crate) fn encode_to(&self, message: &[u8], out: &mut [u8]) -> io::Result<()> {
+        self.write_to("encode", out, |code, out| encoded(code, message, out))
+    }
+
+    pub(crate) fn encode(&self, message: &[u8]) -> io::Result<()> {
+        self.write("encode", |code, out| encoded(code, message, out))
+    }
+
+    pub(crate) fn correct(&self, word: &[u8]) -> io::Result<()> {
+        self.write("correct", |code, out| match code.s {
+            0 => same(code, taken(z2z4::z2z4_correct(code.t, code.r, word, out))),
+            _ => coder::correct(code, word, out),
+        })
+    }
+
+    pub(crate) fn combine(&self, first: &[u8], second: &[u8]) -> io::Result<()> {
+        self.write("combine", |code, out| match code.s {
+            0 => same(
+                code,
+                taken(z2z4::z2z4_combine(code.t, code.r, first, second, out)),
+            ),
+            _ => same(code, coder::combine(code, first, second, out)),
+        })
+    }
+
+    pub(crate) fn inverse(&self, word: &[u8]) -> io::Result<()> {
+        self.write(
+            "inverse",
+            |code, out| same(code, coder::invert(code, word, out)),
+        )
+    }
+
+    // The message that is read, its length before it.
+    pub(crate) fn read(&self, word: &[u8]) -> io::Result<()> {
+        let m = coder::read_message(self.code, word);
+        print!(self.rt; "read {}", m.len())?;
+        if !m.is_empty() {
+            print!(self.rt; " {}", Hex(m))?;
+        }
+        println!(self.rt)
+    }
+
+    pub(crate) fn third(&self, i: u32, j: u32) -> io::Result<()> {
+        let code = self.code;
+        let Answer { refusal, place } = match code.s {
+            0 => taken(z2z4::z2z4_third_place(code.t, code.r, i, j)),
+            _ => coder::third_place(code, i, j),
+        };
+        println!(self.rt; "third{}", Told { refusal, place })
+    }
+
+    pub(crate) fn syndrome(&self, word: &[u8]) -> io::Result<()> {
+        let a = coder::syndrome(self.code, word);
+        println!(self.rt; "syndrome {} {} {}", a.refusal, a.place, a.element)
+    }
+
+    pub(crate) fn element(&self, place: u32) -> io::Result<()> {
+        let a = coder::element_at(self.code, place);
+        println!(self.rt; "element {} {}", a.refusal, a.element)
+    }
+}
+
+fn encoded(code: Record, message: &[u8], out: &mut [u8]) -> Corrected {
+    let a = match code.s {
+        0 => taken(z2z4::z2z4_encode(code.t, code.r, message, out)),
+        _ => coder::encode(code, message, out),
+    };
+    same(code, a)
 }
 
 // What an opening gave: t, the r in force, s and the lengths, or the refusal.
 pub(crate) fn opening(rt: &impl Print, t: u32, r: u32, s: u32, o: Opened) -> io::Result<()> {
     print!(rt; "open {t} {r} {s}")?;
-    let refusal = o.refusal;
-    if refusal == 0 {
-        lengths(rt, o.record)?;
-    } else {
-        print!(rt; " refused {refusal}")?;
+    if o.refusal != 0 {
+        return println!(rt; " refused {}", o.refusal);
     }
-    println!(rt)
-}
-
-fn lengths(rt: &impl Print, code: Record) -> io::Result<()> {
-    print!(rt;
-        " code {} {} {} {} {}",
-        code.t,
-        code.r,
-        code.s,
-        coder::word_length(code),
-        coder::message_length(code)
-    )
-}
-
-pub(crate) fn syndrome(rt: &impl Print, code: Record, word: &[u8]) -> io::Result<()> {
-    let a = coder::syndrome(code, word);
-    println!(rt; "syndrome {} {} {}", a.refusal, a.place, a.element)
-}
-
-pub(crate) fn element(rt: &impl Print, code: Record, place: u32) -> io::Result<()> {
-    let a = coder::element_at(code, place);
-    println!(rt; "element {} {}", a.refusal, a.element)
+    let code = o.record;
+    let n = coder::word_length(code);
+    let m = coder::message_length(code);
+    println!(rt; " code {} {} {} {n} {m}", code.t, code.r, code.s)
 }

@@ -15,6 +15,9 @@ mod shorter;
 
 ghost use Rattle.std.specs.Prelude.{◌≤◌};
 
+use crate::draw::Draw;
+use crate::lines::Calls;
+use crate::openings::made;
 use crate::round::buffered;
 use coder::Record;
 use std::io;
@@ -43,26 +46,20 @@ fn open(rt: &impl Print, t: u32, r: u32) -> io::Result<()>
     let o = coder::open(t, r, 0);
     lines::opening(rt, t, r, 0, o)?;
     // By the call for C, to which r = 0 is r = t.
-    lines::third(rt, openings::made(t, r, 0), 1, 2)?;
+    Calls::new(rt, made(t, r, 0)).third(1, 2)?;
     // r = 0 opens a code whose rounds come under the r in force.
-    if r == 0 {
-        return Ok(());
-    }
-    if o.refusal == 0 {
-        return rounds(rt, o.record, 1 + 100 * t + r);
+    if r != 0 && o.refusal == 0 {
+        return rounds(rt, o.record, &mut Draw::new(1 + 100 * t + r));
     }
     Ok(())
 }
 
-// Three rounds of a code and three drawn s; with t = 11 and 12, whose words are long, one of each, so that the
-// whole text can still be read.
-fn rounds(rt: &impl Print, code: Record, start: u32) -> io::Result<()> {
-    let t = code.t;
-    let x = buffered(rt, code, start)?;
-    if 10 < t {
-        return shorter::rounds(rt, code, 10, x);
+// Three rounds of a code and twelve s, of which three are drawn; with t = 11 and 12, whose words are long, one round
+// and one drawn s, so that the whole text can still be read.
+fn rounds(rt: &impl Print, code: Record, draw: &mut Draw) -> io::Result<()> {
+    let (own, shortened) = if code.t > 10 { (1, 10) } else { (3, 12) };
+    for _ in 0..own {
+        buffered(rt, code, draw)?;
     }
-    let y = buffered(rt, code, x)?;
-    let z = buffered(rt, code, y)?;
-    shorter::rounds(rt, code, 12, z)
+    shorter::rounds(rt, code, shortened, draw)
 }

@@ -1,24 +1,21 @@
 // Prints the sheet of the code that a line of standard input names.
 #![tactic(auto)]
 
-ghost use Rattle.std.specs.Prelude.{◌≤◌, length};
-
 use std::io::{self, Read};
 
+// No sheet is longer than its buffer: `in_buffer`, by `fits` in crate listing_theory, specs/Claims.antt.
+#[tactic(auto, using(listing_theory::proofs::Sheets::in_buffer))]
 fn main(rt: HostRuntime) -> io::Result<()> {
     // The longest line of the form has ten bytes: one more shows that something follows it.
     let mut line = [0u8; 11];
-    let got = read_full(&mut rt.stdin(), &mut line);
-    // No sheet is longer than this buffer: `fits` in crate listing_theory, specs/Claims.antt.
     let mut text = [0u8; 65536];
-    let n = listing::sheet(&line[..got], &mut text);
-    rt.write_all(&text[..n])
+    let n = listing::sheet(read_full(&mut rt.stdin(), &mut line), &mut text);
+    let (sheet, _) = text.split_at(n);
+    rt.write_all(sheet)
 }
 
-// Reads until the buffer is full, the input ends or a read fails, and tells how many bytes came.
-fn read_full(input: &mut impl Read, buffer: &mut [u8]) -> usize
-    ensures { result ≤ length buffer.new }
-{
+// Reads until the buffer is full, the input ends or a read fails, and gives the bytes that came.
+fn read_full<'a>(input: &mut impl Read, buffer: &'a mut [u8]) -> &'a [u8] {
     let mut done = 0;
     while done < buffer.len() {
         match input.read(&mut buffer[done..]) {
@@ -26,5 +23,5 @@ fn read_full(input: &mut impl Read, buffer: &mut [u8]) -> usize
             _ => break,
         }
     }
-    done
+    &buffer[..done]
 }

@@ -1,9 +1,0 @@
--- What the loop of `larger::every::bits` keeps true.
-use Rattle.std.proofs.Common.{◌-◌, ◌≤◌}
-use Rattle.larger.proofs.every.bits.Given as goal
-
-abbrev pub invariant-loop-i : goal.invariant-loop-i
-invariant-loop-i l = l.i ≤ 12
-
-abbrev pub decreases-loop-i : goal.decreases-loop-i
-decreases-loop-i l = 12 - l.i
