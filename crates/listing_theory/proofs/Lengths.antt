@@ -9,6 +9,7 @@ use native.Mathlib.Numerals.{add-one}
 use native.Mathlib.Omega.{arith}
 use lib.Dec.{eqb}
 use lib.ListN.{length, length-append}
+use Rattle.std.specs.Prelude.{Option, Some, None}
 use Rattle.coder_theory.specs.Calls.{word_length, message_length, element_answer}
 use Rattle.coder_theory.specs.declared.Record.{Record}
 use Rattle.coder_theory.specs.declared.Opened.{Opened}
@@ -17,8 +18,7 @@ use Rattle.listing_theory.specs.Form.{read_line}
 use Rattle.listing_theory.specs.Puts.{Puts}
 use Rattle.listing_theory.specs.Sheet.{field_text, refused_line, heading_text, place_line, place_lines, listing_text, answer_text, line_text, sheet_text}
 use Rattle.listing_theory.specs.Claims.{buffer_length}
-use Rattle.listing_theory.specs.declared.Line.{Line}
-use Rattle.listing_theory.specs.declared.Line.TheVariants.{Read, Malformed}
+use Rattle.listing_theory.specs.declared.Asked.{Asked}
 use Rattle.listing_theory.proofs.Decimals.{decimal-length, decimal-below}
 
 field-length : (x end : ℕ) → length (field_text x end) ≤ 11
@@ -91,10 +91,10 @@ unfolding answer_text
 answer-length o true e = rw e (listing-length o.«record»)
 answer-length o false e = rw e (refused-length _)
 
-line-fits : (l : Line) → length (line_text l) ≤ buffer_length
+line-fits : (l : Option Asked) → length (line_text l) ≤ buffer_length
 unfolding line_text
-line-fits Malformed = refused-length _
-line-fits (Read t r) = answer-length _ _ refl
+line-fits None = refused-length _
+line-fits (Some a) = answer-length _ _ refl
 
 -- a sheet fits into the program's buffer, whatever the input is
 pub sheet-fits : (input : List ℕ) → length (sheet_text input) ≤ buffer_length

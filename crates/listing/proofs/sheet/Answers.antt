@@ -6,26 +6,14 @@ use Rattle.listing_theory.proofs.Answers.{sheet-malformed, sheet-read}
 use Rattle.listing_theory.proofs.Putting.{renamed, puts_whole}
 use Rattle.listing.proofs.sheet.Goals as goal
 
-pub returns-in-Malformed : goal.returns-in-Malformed
-returns-in-Malformed c =
-    record {
-      length = (puts_whole
-          (renamed (sheet-malformed _ _ c.line-line.ensures c.in-Malformed.is) c.refusal.ensures)).0;
-      bytes = (puts_whole
-          (renamed (sheet-malformed _ _ c.line-line.ensures c.in-Malformed.is) c.refusal.ensures)).1;
-    }
+pub returns-in-None : goal.returns-in-None
+returns-in-None c =
+    let w = puts_whole (renamed (sheet-malformed _ _ c.line.ensures c.in-None.is) c.refusal.ensures) in
+    record { length = w.0; bytes = w.1 }
 
-pub returns-in-Read : goal.returns-in-Read
-returns-in-Read c =
-    record {
-      length = (puts_whole
-          (renamed
-          (ap (λ (x : Opened). answer_text x) c.open.ensures
-          ∙ sheet-read _ _ c.line-line.ensures _ _ _ c.in-Read.is c.or_hamming-used.ensures)
-          c.answer.ensures)).0;
-      bytes = (puts_whole
-          (renamed
-          (ap (λ (x : Opened). answer_text x) c.open.ensures
-          ∙ sheet-read _ _ c.line-line.ensures _ _ _ c.in-Read.is c.or_hamming-used.ensures)
-          c.answer.ensures)).1;
-    }
+pub returns-in-Some : goal.returns-in-Some
+returns-in-Some c =
+    let e = ap (λ (x : Opened). answer_text x) c.open.ensures
+    ∙ sheet-read _ _ c.line.ensures _ _ c.in-Some.is c.or_hamming-used.ensures in
+    let w = puts_whole (renamed e c.answer.ensures) in
+    record { length = w.0; bytes = w.1 }
