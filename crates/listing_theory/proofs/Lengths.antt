@@ -1,11 +1,10 @@
 -- How long a sheet and its parts can be, which keeps a position from wrapping, and the lines of the places one by one.
 -- Assumes nothing.
-use mathlib.Core.Path.{◌≡◌, refl, ap}
+use mathlib.Core.Path.{◌≡◌, refl, ap, ◌∙◌}
 use mathlib.Core.Bool.{Bool, true, false}
 use mathlib.Core.List.{List, ◌++◌, append-nil, append_assoc}
-use Prim.Native.Nat.{ℕ, zero, suc, ◌+◌, ◌*◌, ◌^◌, ◌≤◌, ◌<◌}
+use Prim.Native.Nat.{ℕ, zero, suc, ◌+◌, ◌-◌, ◌*◌, ◌^◌, ◌≤◌, ◌<◌}
 use native.Mathlib.Nat.{mul-suc}
-use native.Mathlib.Numerals.{add-one}
 use native.Mathlib.Omega.{arith}
 use lib.Dec.{eqb}
 use lib.ListN.{length, length-append}
@@ -61,19 +60,18 @@ last_line rec p (suc k) =
     let e : p + suc k ≡ p + 1 + k = omega arith in
     rw (e, append_assoc) (ap (λ (l : List ℕ). place_line rec p ++ l) (last_line rec (p + 1) k))
 
--- the line of one place more comes last
-pub lines-last : (rec : Record) (p k : ℕ) → place_lines rec p (k + 1) ≡ place_lines rec p k ++ place_line rec (p + k)
-lines-last rec p k = rw (add-one k) (last_line rec p k)
+-- the line of the place p comes after those of the places before it
+pub lines-next : (rec : Record) (p : ℕ) → 1 ≤ p → place_lines rec 1 (p + 1 - 1) ≡ place_lines rec 1 (p - 1) ++ place_line rec p
+lines-next rec p h =
+    let e : p + 1 - 1 ≡ suc (p - 1) = omega arith in
+    let f : 1 + (p - 1) ≡ p = omega arith in
+    rw e (last_line rec 1 (p - 1) ∙ ap (λ (q : ℕ). place_lines rec 1 (p - 1) ++ place_line rec q) f)
 
-heading-length : (rec : Record) → length (heading_text rec) ≤ 49
+pub heading-length : (rec : Record) → length (heading_text rec) ≤ 49
 unfolding heading_text
 heading-length rec =
     simp length-append
     (omega (arith, field-length rec.t 32, field-length rec.r 32, field-length (word_length rec) 32, field-length (message_length rec) 10))
-
--- a heading ends early enough for the lines of a word's places
-pub puts-heading : {o o' : List ℕ} {n : ℕ} (rec : Record) → Puts o 0 (heading_text rec) o' n → n ≤ 49
-puts-heading rec p = omega (arith, p.next, heading-length rec)
 
 listing-length : (rec : Record) → length (listing_text rec) ≤ buffer_length
 unfolding listing_text
