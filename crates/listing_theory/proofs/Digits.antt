@@ -1,4 +1,4 @@
--- The digits at the front of a text, and the loops that count them and take their value. Assumes nothing.
+-- The digits at the front of a text, how many the library counts, and the loop that takes their value. Assumes nothing.
 use mathlib.Core.Path.{◌≡◌, refl, ap}
 use mathlib.Core.Bool.{true, false}
 use mathlib.Core.List.{List, [], ◌∷◌, ◌++◌}
@@ -68,10 +68,6 @@ pub record Valued (u : List ℕ) (v i : ℕ) : Type 0 where
   pub within : i ≤ length u
   pub bound : v ≤ most i
   pub whole : value_from v (drop i u) ≡ value u
-
-pub value-start : (u : List ℕ) → Valued u 0 0
-unfolding most
-value-start u = record { within = omega arith; bound = omega arith; whole = refl }
 
 module _ (u : List ℕ) (v i : ℕ) (c : Valued u v i) where
   pub value-small : i ≤ 4 → v ≤ 300000

@@ -1,10 +1,7 @@
 -- `listing::read::value_of` meets its contract. The invariant: the value so far, and the digits left, give the value of all. Assumes nothing.
 use native.Mathlib.Omega.{arith}
-use Rattle.listing_theory.proofs.Digits.{value-start, value-small, value-step, value-end}
+use Rattle.listing_theory.proofs.Digits.{value-small, value-step, value-end}
 use Rattle.listing.proofs.read.value_of.Goals as goal
-
-pub loop-digit-init : goal.loop-digit-init
-loop-digit-init c = value-start _
 
 pub overflow_mul-value : goal.overflow_mul-value
 overflow_mul-value c = let v = value-small _ _ _ c.loop-digit.invariant (omega arith) in omega arith
