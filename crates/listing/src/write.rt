@@ -40,7 +40,8 @@ impl<'a> Text<'a> {
         self.at += 1;
     }
 
-    // A number's digits: all but the last one, and then the last.
+    // A number's digits: all but the last one, and then the last. They are written by hand, since `write!`
+    // promises its text only where it answers `Ok`, and nothing here may fail.
     fn number(&mut self, x: u32)
         requires { self.old.at < 2 ^ 47 }
         ensures { Appends self.old (decimal x) self.new }

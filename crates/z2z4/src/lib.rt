@@ -1,7 +1,7 @@
 // The calls by t and r, with no record: each opens a record, r = 0 meaning r = t, and is the coder's call
-// with it. They answer 0 or a place, and a refusal as its negated number. What each answers and writes is
-// defined in crate z2z4_theory, specs/Calls.antt; that it is the coder's call is a theorem there. Crate
-// z2z4_c hands them to C under the same names.
+// with it. They answer 0 or a place, and a refusal as its negated number, since C takes one number and no
+// `Result`. What each answers and writes is defined in crate z2z4_theory, specs/Calls.antt; that it is the
+// coder's call is a theorem there. Crate z2z4_c hands them to C under the same names.
 #![tactic(auto)]
 
 ghost use Rattle.std.specs.Prelude.{◌≡◌, ◌≢◌, ◌<◌, ◌^◌, MatchResult};
