@@ -11,19 +11,21 @@ mod write;
 ghost use Rattle.std.specs.Prelude.{◌≡◌, length};
 ghost use Rattle.listing_theory.specs.Sheet.{sheet_text, overwrite};
 
-use listing_theory::Line;
+use listing_theory::Asked;
+use write::Text;
 
 // The whole output for an input, over the front of `out`.
 pub fn sheet(input: &[u8], out: &mut [u8]) -> usize
     ensures length { result ≡ length (sheet_text input.now) }
     ensures bytes { out.new ≡ overwrite (sheet_text input.now) out.old }
 {
-    let line = read::line(input);
-    match line {
-        Line::Malformed => write::refusal(out, 7),
-        Line::Read { t, r } => {
+    let mut text = Text::new(out);
+    match read::line(input) {
+        None => text.refusal(7),
+        Some(Asked { t, r }) => {
             let used = parameters::or_hamming(t, r);
-            write::answer(out, coder::open(t, used, 0))
+            text.answer(coder::open(t, used, 0));
         }
     }
+    text.len()
 }

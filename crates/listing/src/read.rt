@@ -1,104 +1,54 @@
-// Reading an input line: digits, a space, digits, a newline and nothing after. A function takes the
-// part of the line that is left, so that each contract is about a text from its front on.
-ghost use Rattle.std.specs.Prelude.{◌≡◌, ◌≤◌, ◌-◌, length, take};
-ghost use Rattle.listing_theory.specs.Decimal.{is_digit, value};
-ghost use Rattle.listing_theory.specs.Form.{leading_digits, one_to_four, is_end, read_second, read_rest, read_line};
+// Reading an input line: digits, a space, digits, a newline and nothing after.
+ghost use Rattle.std.specs.Prelude.{◌≡◌, ◌≤◌, false, length, MatchOption};
+ghost use Rattle.std.specs.List.{prefix_len};
+ghost use Rattle.std.specs.Char.{is_ascii_digit};
+ghost use Rattle.listing_theory.specs.Decimal.{value};
+ghost use Rattle.listing_theory.specs.Form.{leading_digits, one_to_four, read_line};
+ghost use Rattle.listing_theory.specs.Takes.{Takes};
 
-use listing_theory::Line;
+use listing_theory::Asked;
 
-fn is_digit(b: u8) -> bool
-    ensures { result ≡ is_digit b }
+// The value of digits. A byte below the digits counts as 0, so that nothing is required of it.
+fn value_of(digits: &[u8]) -> u32
+    requires { length digits.now ≤ 4 }
+    ensures { result ≡ value digits.now }
 {
-    if b < 48 { false } else { b <= 57 }
+    let mut value = 0;
+    for digit in digits {
+        value = value * 10 + u32::from(digit.saturating_sub(b'0'));
+    }
+    value
 }
 
 // How many digits the text begins with.
 fn digits(s: &[u8]) -> usize
-    ensures { result ≡ length (leading_digits s.now) }
+    ensures { result ≡ prefix_len is_ascii_digit s.now }
 {
-    let mut i: usize = 0;
-    while i < s.len() {
-        if !is_digit(s[i]) {
-            return i;
-        }
-        i += 1;
-    }
-    i
+    s.iter().take_while(|b| b.is_ascii_digit()).count()
 }
 
-// What a digit adds. A byte below the digits counts as 0, so that nothing is required of it.
-fn digit_value(b: u8) -> u32
-    ensures { result ≡ b - 48 }
-{
-    if b < 48 { 0 } else { (b - 48) as u32 }
-}
-
-// The value of the first n bytes, as digits.
-fn value_of(s: &[u8], n: usize) -> u32
-    requires { (n ≤ 4) × (n ≤ length s.now) }
-    ensures { result ≡ value (take n s.now) }
-{
-    let mut v: u32 = 0;
-    let mut i: usize = 0;
-    while i < n {
-        v = v * 10 + digit_value(s[i]);
-        i += 1;
-    }
-    v
-}
-
-// Whether a number may have so many digits.
-fn is_one_to_four(n: usize) -> bool
-    ensures { result ≡ one_to_four n }
-{
-    if n < 1 { false } else { n <= 4 }
-}
-
-// Whether a newline is all that is left.
-fn is_end(s: &[u8]) -> bool
-    ensures { result ≡ is_end s.now }
-{
-    if s.len() == 1 { s[0] == 10 } else { false }
-}
-
-// The second number and the newline.
-fn second(t: u32, s: &[u8]) -> Line
-    ensures { result ≡ read_second t s.now }
+// The number of one to four digits that a text begins with, and what follows it.
+fn number(s: &[u8]) -> Option<(u32, &[u8])>
+    ensures { MatchOption result (one_to_four (length (leading_digits s.now)) ≡ false) (λ p. Takes s.now p.0 p.1.now) }
 {
     let n = digits(s);
-    if !is_one_to_four(n) {
-        return Line::Malformed;
+    if !(1..=4).contains(&n) {
+        return None;
     }
-    if !is_end(&s[n..]) {
-        return Line::Malformed;
-    }
-    Line::Read {
-        t,
-        r: value_of(s, n),
-    }
+    let (digits, rest) = s.split_at(n);
+    Some((value_of(digits), rest))
 }
 
-// The space and what follows it.
-fn rest(t: u32, s: &[u8]) -> Line
-    ensures { result ≡ read_rest t s.now }
-{
-    if s.len() == 0 {
-        return Line::Malformed;
-    }
-    if s[0] != 32 {
-        return Line::Malformed;
-    }
-    second(t, &s[1..])
-}
-
-// The whole line.
-pub(crate) fn line(s: &[u8]) -> Line
+// The t and r that a line asks for, if it is of the form.
+pub(crate) fn line(s: &[u8]) -> Option<Asked>
     ensures { result ≡ read_line s.now }
 {
-    let n = digits(s);
-    if !is_one_to_four(n) {
-        return Line::Malformed;
+    let (t, s) = number(s)?;
+    let s = s.strip_prefix(b" ")?;
+    let (r, s) = number(s)?;
+    if s == b"\n".as_slice() {
+        Some(Asked { t, r })
+    } else {
+        None
     }
-    let t = value_of(s, n);
-    rest(t, &s[n..])
 }

@@ -1,4 +1,4 @@
--- The digits at the front of a text, and the loops that count them and take their value. Assumes nothing.
+-- The digits at the front of a text, how many the library counts, and the loop that takes their value. Assumes nothing.
 use mathlib.Core.Path.{◌≡◌, refl, ap}
 use mathlib.Core.Bool.{true, false}
 use mathlib.Core.List.{List, [], ◌∷◌, ◌++◌}
@@ -8,6 +8,8 @@ use native.Mathlib.Numerals.{add-one}
 use native.Mathlib.Omega.{arith}
 use lib.ListN.{length, drop, get_or, drop_of_length-le}
 use lib.Seq.{drop-cons}
+use Rattle.std.specs.List.{prefix_len}
+use Rattle.std.specs.Char.{is_ascii_digit}
 use Rattle.listing_theory.specs.Decimal.{is_digit, value_from, value}
 use Rattle.listing_theory.specs.Form.{leading_digits, after_digits}
 use Rattle.listing_theory.proofs.Cases.{truth}
@@ -39,26 +41,13 @@ split (b ∷ s) =
     (λ e. rw (leading-other b s e, after-other b s e))
     (truth (is_digit b))
 
--- i digits are passed, and the others of the front are left to count
-abbrev pub Counted : List ℕ → ℕ → Type 0
-Counted s i = (i ≤ length s) × (i + length (leading_digits (drop i s)) ≡ length (leading_digits s))
-
-module _ (s : List ℕ) (i : ℕ) (c : Counted s i) where
-  pub count-step : i < length s → is_digit (get_or s i 0) ≡ true → Counted s (i + 1)
-  count-step h e =
-      let d : leading_digits (drop i s) ≡ get_or s i 0 ∷ leading_digits (drop (i + 1) s) = rw (drop-cons s i 0 h, add-one i) (leading-digit (get_or s i 0) (drop (suc i) s) e) in
-      (omega arith, omega (arith, ap length d))
-
-  pub count-stop : i < length s → is_digit (get_or s i 0) ≡ false → i ≡ length (leading_digits s)
-  count-stop h e =
-      let d : leading_digits (drop i s) ≡ [] = rw (drop-cons s i 0 h) (leading-other (get_or s i 0) (drop (suc i) s) e) in
-      omega (arith, ap length d)
-
-  pub count-end : length s ≤ i → i ≡ length (leading_digits s)
-  unfolding leading_digits
-  count-end h =
-      let d : leading_digits (drop i s) ≡ [] = rw (drop_of_length-le s h) in
-      omega (arith, ap length d)
+-- as many as the library counts
+pub digits-counted : (s : List ℕ) → prefix_len is_ascii_digit s ≡ length (leading_digits s)
+unfolding is_digit leading_digits
+digits-counted [] = refl
+digits-counted (b ∷ s) =
+    let i = digits-counted s in
+    ⊎_elim (λ e. rw e (omega (arith, i))) (λ e. rw e) (truth (is_digit b))
 
 -- a bound on the value of so many bytes, of whatever kind
 pub most : ℕ → ℕ
@@ -79,10 +68,6 @@ pub record Valued (u : List ℕ) (v i : ℕ) : Type 0 where
   pub within : i ≤ length u
   pub bound : v ≤ most i
   pub whole : value_from v (drop i u) ≡ value u
-
-pub value-start : (u : List ℕ) → Valued u 0 0
-unfolding most
-value-start u = record { within = omega arith; bound = omega arith; whole = refl }
 
 module _ (u : List ℕ) (v i : ℕ) (c : Valued u v i) where
   pub value-small : i ≤ 4 → v ≤ 300000

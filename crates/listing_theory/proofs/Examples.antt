@@ -5,6 +5,7 @@ use mathlib.Core.List.{List, [], ◌∷◌, flat_map, map}
 use Prim.Native.Nat.{ℕ, suc, ◌≤◌}
 use native.Mathlib.Omega.{arith}
 use lib.ListN.{get_or, replicate, get_or-map}
+use Rattle.std.specs.Prelude.{None}
 use Rattle.group_theory.specs.Group.{zeros, number}
 use Rattle.group_theory.proofs.Numbers.{number-zeros}
 use Rattle.layout_theory.specs.Parameters.{Admitted, places_of, moduli_for}
@@ -18,18 +19,17 @@ use Rattle.coder_theory.specs.declared.ElementAnswer.{ElementAnswer}
 use Rattle.coder_theory.proofs.States.{zero-usable}
 use Rattle.coder_theory.proofs.Refusals.{fresh-fit, tells}
 use Rattle.listing_theory.specs.Decimal.{digits_within, decimal, is_digit, value_from}
-use Rattle.listing_theory.specs.Form.{leading_digits, after_digits, one_to_four, is_end, read_second, read_rest, read_line}
+use Rattle.listing_theory.specs.Form.{leading_digits, after_digits, one_to_four, is_end, asked, read_second, read_rest, read_line}
 use Rattle.listing_theory.specs.Claims.{DocumentSheet}
-use Rattle.listing_theory.specs.declared.Line.TheVariants.{Read, Malformed}
 use Rattle.listing_theory.proofs.Forms.{spells}
 use Rattle.listing_theory.proofs.Sheets.{sheet-of}
 
 -- "3 2", and the same with leading zeros
-plain : read_line (51 ∷ 32 ∷ 50 ∷ 10 ∷ []) ≡ Read 3 2
+plain : read_line (51 ∷ 32 ∷ 50 ∷ 10 ∷ []) ≡ asked 3 2
 unfolding read_line read_rest read_second leading_digits after_digits one_to_four is_end is_digit value_from
 plain = refl
 
-with-zeros : read_line (48 ∷ 48 ∷ 48 ∷ 51 ∷ 32 ∷ 48 ∷ 48 ∷ 48 ∷ 50 ∷ 10 ∷ []) ≡ Read 3 2
+with-zeros : read_line (48 ∷ 48 ∷ 48 ∷ 51 ∷ 32 ∷ 48 ∷ 48 ∷ 48 ∷ 50 ∷ 10 ∷ []) ≡ asked 3 2
 unfolding read_line read_rest read_second leading_digits after_digits one_to_four is_end is_digit value_from
 with-zeros = refl
 
@@ -46,7 +46,7 @@ malformed =
     ∷ (51 ∷ 32 ∷ 50 ∷ 10 ∷ 10 ∷ [])
     ∷ []
 
-all-refused : map read_line malformed ≡ replicate 8 Malformed
+all-refused : map read_line malformed ≡ replicate 8 None
 unfolding malformed read_line read_rest read_second leading_digits after_digits one_to_four is_end is_digit value_from
 all-refused = refl
 

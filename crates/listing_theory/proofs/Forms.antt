@@ -8,13 +8,13 @@ use native.Mathlib.Omega.{arith}
 use borrow.Author.Tests.{le-leb, leb-true, eqb-true}
 use lib.Dec.{leb, eqb}
 use lib.ListN.{length}
+use Rattle.std.specs.Prelude.{Option, None}
 use Rattle.group_theory.proofs.Signs.{both}
 use Rattle.layout_theory.specs.Choice.{pick}
 use Rattle.listing_theory.specs.Decimal.{is_digit, value}
-use Rattle.listing_theory.specs.Form.{leading_digits, after_digits, one_to_four, is_end, read_second, read_rest, read_line}
+use Rattle.listing_theory.specs.Form.{leading_digits, after_digits, one_to_four, is_end, asked, read_second, read_rest, read_line}
 use Rattle.listing_theory.specs.Spelling.{Digits, none, more, Number, Spells}
-use Rattle.listing_theory.specs.declared.Line.{Line}
-use Rattle.listing_theory.specs.declared.Line.TheVariants.{Read, Malformed}
+use Rattle.listing_theory.specs.declared.Asked.{Asked}
 use Rattle.listing_theory.proofs.Cases.{truth, never}
 use Rattle.listing_theory.proofs.Digits.{leading-digit, leading-other, after-digit, after-other, split}
 
@@ -37,17 +37,17 @@ number-one-to-four : (ds : List ℕ) → Number ds → one_to_four (length ds) �
 unfolding one_to_four
 number-one-to-four ds n = rw (le-leb 1 (length ds) n.some, le-leb (length ds) 4 n.at_most)
 
-second_reads : (t : ℕ) (es : List ℕ) → Number es → read_second t (es ++ (10 ∷ [])) ≡ Read t (value es)
+second_reads : (t : ℕ) (es : List ℕ) → Number es → read_second t (es ++ (10 ∷ [])) ≡ asked t (value es)
 unfolding read_second is_end
 second_reads t es n =
     let p = stop 10 [] n.digits newline-ends in
     rw (p.0, p.1, number-one-to-four es n)
 
-rest-reads : (t : ℕ) (es : List ℕ) → Number es → read_rest t (32 ∷ (es ++ (10 ∷ []))) ≡ Read t (value es)
+rest-reads : (t : ℕ) (es : List ℕ) → Number es → read_rest t (32 ∷ (es ++ (10 ∷ []))) ≡ asked t (value es)
 unfolding read_rest
 rest-reads t es n = second_reads t es n
 
-pub spelt-is-read : (s : List ℕ) (t r : ℕ) → Spells s t r → read_line s ≡ Read t r
+pub spelt-is-read : (s : List ℕ) (t r : ℕ) → Spells s t r → read_line s ≡ asked t r
 unfolding read_line
 spelt-is-read s t r w =
     let p = stop 32 (w.second ++ (10 ∷ [])) w.first_number.digits space-ends in
@@ -82,19 +82,24 @@ end-newline (b ∷ c ∷ s) e = absurd (never e)
 
 -- what is read was not malformed
 module _ (t r : ℕ) where
-  not-malformed : Malformed ≡ Read t r → ⊥
+  not-malformed : None ≡ asked t r → ⊥
   not-malformed p = let z : ◌≡◌ {A = ℕ} 0 1 = cc in omega arith
 
-  picked : (b : Bool) (l : Line) → pick b l Malformed ≡ Read t r → (b ≡ true) × (l ≡ Read t r)
+  same-asked : (v w : ℕ) → asked v w ≡ asked t r → (v ≡ t) × (w ≡ r)
+  same-asked v w p =
+      let e : ◌≡◌ {A = Asked} (record { t = v; r = w }) (record { t = t; r = r }) = cc in
+      (ap (λ (a : Asked). a.t) e, ap (λ (a : Asked). a.r) e)
+
+  picked : (b : Bool) (l : Option Asked) → pick b l None ≡ asked t r → (b ≡ true) × (l ≡ asked t r)
   picked true l e = (refl, e)
   picked false l e = absurd (not-malformed e)
 
   record After (v : ℕ) (u : List ℕ) : Type 0 where
     rest : List ℕ
     space : u ≡ 32 ∷ rest
-    reading : read_second v rest ≡ Read t r
+    reading : read_second v rest ≡ asked t r
 
-  rest-after : (v : ℕ) (u : List ℕ) → read_rest v u ≡ Read t r → After v u
+  rest-after : (v : ℕ) (u : List ℕ) → read_rest v u ≡ asked t r → After v u
   unfolding read_rest
   rest-after v [] e = absurd (not-malformed e)
   rest-after v (b ∷ u) e =
@@ -102,18 +107,16 @@ module _ (t r : ℕ) where
       record { rest = u; space = ap (λ (x : ℕ). x ∷ u) (eqb-true b 32 p.0); reading = p.1 }
 
   second-after :
-      (v : ℕ) (u : List ℕ) → read_second v u ≡ Read t r
-      → Number (leading_digits u) × (u ≡ leading_digits u ++ (10 ∷ [])) × (Read v (value (leading_digits u)) ≡ Read t r)
+      (v : ℕ) (u : List ℕ) → read_second v u ≡ asked t r
+      → Number (leading_digits u) × (u ≡ leading_digits u ++ (10 ∷ [])) × (v ≡ t) × (value (leading_digits u) ≡ r)
   unfolding read_second
   second-after v u e =
-      let p = picked (one_to_four (length (leading_digits u)) && is_end (after_digits u)) (Read v (value (leading_digits u))) e in
-      let q = both (one_to_four (length (leading_digits u))) (is_end (after_digits u)) p.0 in (
-        leading-number u q.0,
-        sym (split u) ∙ ap (λ (l : List ℕ). leading_digits u ++ l) (end-newline (after_digits u) q.1),
-        p.1,
-      )
+      let p = picked (one_to_four (length (leading_digits u)) && is_end (after_digits u)) (asked v (value (leading_digits u))) e in
+      let q = both (one_to_four (length (leading_digits u))) (is_end (after_digits u)) p.0 in
+      let a = same-asked v (value (leading_digits u)) p.1 in
+      (leading-number u q.0, sym (split u) ∙ ap (λ (l : List ℕ). leading_digits u ++ l) (end-newline (after_digits u) q.1), a.0, a.1)
 
-  pub spells : (s : List ℕ) → read_line s ≡ Read t r → Spells s t r
+  pub spells : (s : List ℕ) → read_line s ≡ asked t r → Spells s t r
   unfolding read_line
   spells s e =
       let p = picked (one_to_four (length (leading_digits s))) (read_rest (value (leading_digits s)) (after_digits s)) e in
@@ -125,6 +128,6 @@ module _ (t r : ℕ) where
         first_number = leading-number s p.0;
         second_number = b.0;
         spelling = sym (split s) ∙ ap (λ (l : List ℕ). leading_digits s ++ l) (a.space ∙ ap (λ (l : List ℕ). 32 ∷ l) b.1);
-        first_value = let q = b.2 in cc;
-        second_value = let q = b.2 in cc;
+        first_value = b.2;
+        second_value = b.3;
       }

@@ -1,14 +1,14 @@
 -- How long a sheet and its parts can be, which keeps a position from wrapping, and the lines of the places one by one.
 -- Assumes nothing.
-use mathlib.Core.Path.{◌≡◌, refl, ap}
+use mathlib.Core.Path.{◌≡◌, refl, ap, ◌∙◌}
 use mathlib.Core.Bool.{Bool, true, false}
 use mathlib.Core.List.{List, ◌++◌, append-nil, append_assoc}
-use Prim.Native.Nat.{ℕ, zero, suc, ◌+◌, ◌*◌, ◌^◌, ◌≤◌, ◌<◌}
+use Prim.Native.Nat.{ℕ, zero, suc, ◌+◌, ◌-◌, ◌*◌, ◌^◌, ◌≤◌, ◌<◌}
 use native.Mathlib.Nat.{mul-suc}
-use native.Mathlib.Numerals.{add-one}
 use native.Mathlib.Omega.{arith}
 use lib.Dec.{eqb}
 use lib.ListN.{length, length-append}
+use Rattle.std.specs.Prelude.{Option, Some, None}
 use Rattle.coder_theory.specs.Calls.{word_length, message_length, element_answer}
 use Rattle.coder_theory.specs.declared.Record.{Record}
 use Rattle.coder_theory.specs.declared.Opened.{Opened}
@@ -17,8 +17,7 @@ use Rattle.listing_theory.specs.Form.{read_line}
 use Rattle.listing_theory.specs.Puts.{Puts}
 use Rattle.listing_theory.specs.Sheet.{field_text, refused_line, heading_text, place_line, place_lines, listing_text, answer_text, line_text, sheet_text}
 use Rattle.listing_theory.specs.Claims.{buffer_length}
-use Rattle.listing_theory.specs.declared.Line.{Line}
-use Rattle.listing_theory.specs.declared.Line.TheVariants.{Read, Malformed}
+use Rattle.listing_theory.specs.declared.Asked.{Asked}
 use Rattle.listing_theory.proofs.Decimals.{decimal-length, decimal-below}
 
 field-length : (x end : ℕ) → length (field_text x end) ≤ 11
@@ -61,19 +60,18 @@ last_line rec p (suc k) =
     let e : p + suc k ≡ p + 1 + k = omega arith in
     rw (e, append_assoc) (ap (λ (l : List ℕ). place_line rec p ++ l) (last_line rec (p + 1) k))
 
--- the line of one place more comes last
-pub lines-last : (rec : Record) (p k : ℕ) → place_lines rec p (k + 1) ≡ place_lines rec p k ++ place_line rec (p + k)
-lines-last rec p k = rw (add-one k) (last_line rec p k)
+-- the line of the place p comes after those of the places before it
+pub lines-next : (rec : Record) (p : ℕ) → 1 ≤ p → place_lines rec 1 (p + 1 - 1) ≡ place_lines rec 1 (p - 1) ++ place_line rec p
+lines-next rec p h =
+    let e : p + 1 - 1 ≡ suc (p - 1) = omega arith in
+    let f : 1 + (p - 1) ≡ p = omega arith in
+    rw e (last_line rec 1 (p - 1) ∙ ap (λ (q : ℕ). place_lines rec 1 (p - 1) ++ place_line rec q) f)
 
-heading-length : (rec : Record) → length (heading_text rec) ≤ 49
+pub heading-length : (rec : Record) → length (heading_text rec) ≤ 49
 unfolding heading_text
 heading-length rec =
     simp length-append
     (omega (arith, field-length rec.t 32, field-length rec.r 32, field-length (word_length rec) 32, field-length (message_length rec) 10))
-
--- a heading ends early enough for the lines of a word's places
-pub puts-heading : {o o' : List ℕ} {n : ℕ} (rec : Record) → Puts o 0 (heading_text rec) o' n → n ≤ 49
-puts-heading rec p = omega (arith, p.next, heading-length rec)
 
 listing-length : (rec : Record) → length (listing_text rec) ≤ buffer_length
 unfolding listing_text
@@ -91,10 +89,10 @@ unfolding answer_text
 answer-length o true e = rw e (listing-length o.«record»)
 answer-length o false e = rw e (refused-length _)
 
-line-fits : (l : Line) → length (line_text l) ≤ buffer_length
+line-fits : (l : Option Asked) → length (line_text l) ≤ buffer_length
 unfolding line_text
-line-fits Malformed = refused-length _
-line-fits (Read t r) = answer-length _ _ refl
+line-fits None = refused-length _
+line-fits (Some a) = answer-length _ _ refl
 
 -- a sheet fits into the program's buffer, whatever the input is
 pub sheet-fits : (input : List ℕ) → length (sheet_text input) ≤ buffer_length

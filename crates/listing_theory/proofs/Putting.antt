@@ -1,11 +1,10 @@
 -- Texts put into a buffer one after the other: the laws that the functions of crate listing, src/write.rt, are made of. Assumes nothing.
 use mathlib.Core.Path.{◌≡◌, refl, ap, sym, ◌∙◌}
 use mathlib.Core.List.{List, [], ◌∷◌, ◌++◌}
-use Prim.Native.Nat.{ℕ, suc, ◌+◌, ◌≤◌, ◌<◌}
-use native.Mathlib.Numerals.{add-one}
+use Prim.Native.Nat.{ℕ, suc, ◌+◌}
 use native.Mathlib.Omega.{arith}
-use lib.ListN.{length, length-append, take, drop, get_or, set}
-use lib.Seq.{sets, take-suc, set_out, length-sets}
+use lib.ListN.{length, length-append, take, drop, set}
+use lib.Seq.{sets}
 use Rattle.listing_theory.specs.Puts.{Puts}
 use Rattle.listing_theory.specs.Sheet.{overwrite}
 
@@ -18,15 +17,6 @@ sets-append o at (b ∷ s) t =
 pub puts_none : (o : List ℕ) (at : ℕ) → Puts o at [] o at
 puts_none o at = record { next = omega arith; bytes = refl }
 
-pub byte-in : (o o' : List ℕ) (at b : ℕ) → o' ≡ set o at b → Puts o at (b ∷ []) o' (at + 1)
-byte-in o o' at b e = record { next = omega arith; bytes = e }
-
-pub byte-out : (o o' : List ℕ) (at b : ℕ) → o' ≡ o → length o ≤ at → Puts o at (b ∷ []) o' (at + 1)
-byte-out o o' at b e h = record { next = omega arith; bytes = e ∙ sym (set_out o at b h) }
-
-pub puts-length : {o o' s : List ℕ} {at n : ℕ} → Puts o at s o' n → length o' ≡ length o
-puts-length {o} {o'} {s} {at} p = ap length p.bytes ∙ length-sets o at s
-
 -- a text and then another, put where the first ended
 pub joined : {o o' o'' s t : List ℕ} {at m n : ℕ} → Puts o at s o' m → Puts o' m t o'' n → Puts o at (s ++ t) o'' n
 joined {o} {o'} {o''} {s} {t} {at} p q =
@@ -38,14 +28,6 @@ joined {o} {o'} {o''} {s} {t} {at} p q =
 -- the same text, named otherwise
 pub renamed : {o o' s t : List ℕ} {at n : ℕ} → s ≡ t → Puts o at s o' n → Puts o at t o' n
 renamed e p = rw (← e) p
-
--- the first bytes of a text, and one byte more
-pub one_more :
-    (o o' o'' w : List ℕ) (at i n : ℕ) → i < length w → Puts o at (take i w) o' (at + i) → Puts o' (at + i) (get_or w i 0 ∷ []) o'' n
-    → Puts o at (take (i + 1) w) o'' (at + (i + 1))
-one_more o o' o'' w at i n h p q =
-    let e : n ≡ at + (i + 1) = omega (arith, q.next) in
-    rw (add-one i, take-suc w i 0 h, ← add-one i, ← e) (joined p q)
 
 sets-nil : (at : ℕ) (s : List ℕ) → sets [] at s ≡ []
 sets-nil at [] = refl

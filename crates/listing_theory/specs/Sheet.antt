@@ -1,6 +1,6 @@
 -- The text of a sheet: "It prints `code`, t, r in force, n and message length, then for each place the place and its element number.
 -- .. A refusal prints one line: `refused`, one space, the number." Assumes nothing.
-use Rattle.std.specs.Prelude.{List, [], ◌∷◌, ◌++◌, ℕ, zero, suc, ◌+◌, eqb}
+use Rattle.std.specs.Prelude.{List, [], ◌∷◌, ◌++◌, ℕ, zero, suc, ◌+◌, eqb, Option, Some, None}
 use Rattle.layout_theory.specs.Choice.{pick}
 use Rattle.layout_theory.specs.Calls.{or_hamming}
 use Rattle.coder_theory.specs.Calls.{opened, element_answer, word_length, message_length}
@@ -8,8 +8,7 @@ use Rattle.coder_theory.specs.declared.Record.{Record}
 use Rattle.coder_theory.specs.declared.Opened.{Opened}
 use Rattle.listing_theory.specs.Decimal.{decimal}
 use Rattle.listing_theory.specs.Form.{read_line}
-use Rattle.listing_theory.specs.declared.Line.{Line}
-use Rattle.listing_theory.specs.declared.Line.TheVariants.{Read, Malformed}
+use Rattle.listing_theory.specs.declared.Asked.{Asked}
 
 -- a number and the byte after it: 32, a space, or 10, a newline
 unfoldable pub field_text : ℕ → ℕ → List ℕ
@@ -50,9 +49,9 @@ answer_text o = pick (eqb o.refusal 0) (listing_text o.«record») (refused_line
 
 -- a line that is not of the form is refused with 7, before the parameters are looked at; the sheet and the calls for C "turn 0 into r = t
 -- themselves, before opening, so printed sheets stay comparable" (request C-13)
-unfoldable pub line_text : Line → List ℕ
-line_text Malformed = refused_line 7
-line_text (Read t r) = answer_text (opened t (or_hamming t r) 0)
+unfoldable pub line_text : Option Asked → List ℕ
+line_text None = refused_line 7
+line_text (Some a) = answer_text (opened a.t (or_hamming a.t a.r) 0)
 
 -- the bytes of the whole output for the bytes of an input
 unfoldable pub sheet_text : List ℕ → List ℕ

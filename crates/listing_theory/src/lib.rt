@@ -1,10 +1,10 @@
-// Theory of the sheet as text. What an input line says is declared here. Definitions are in specs/,
+// Theory of the sheet as text. What an input line asks for is declared here. Definitions are in specs/,
 // theorems in proofs/; there is no function here.
 #![tactic(auto)]
 
-// What an input line says.
+// The parameters that an input line spells.
 #[derive(Clone, Copy)]
-pub enum Line {
-    Read { t: u32, r: u32 },
-    Malformed,
+pub struct Asked {
+    pub t: u32,
+    pub r: u32,
 }

@@ -1,21 +1,30 @@
--- `listing::read::line` meets its contract: a law for each answer. Assumes nothing.
-use mathlib.Core.Path.{sym, ◌∙◌}
-use Rattle.listing_theory.proofs.Lines.{inside, one-to-four-inside, line-count, line_read}
+-- `listing::read::line` meets its contract: a law for each thing that is found. Assumes nothing.
+use mathlib.Core.Path.{◌∙◌}
+use Rattle.listing_theory.proofs.Lines.{line-none, line-number, rest-other, rest-space, second-none, second-end, second-more, end-newline}
 use Rattle.listing.proofs.read.line.Goals as goal
 
-pub returns-then-not-is_one_to_four : goal.returns-then-not-is_one_to_four
-returns-then-not-is_one_to_four c = line-count _ _ c.digits-n.ensures (sym c.is_one_to_four.ensures ∙ c.if-not-is_one_to_four.true)
+pub returns-in_err-t : goal.returns-in_err-t
+returns-in_err-t c = c.from_residual.ensures ∙ line-none _ c.in_err-t.ensures
 
-pub value_of-t-requires : goal.value_of-t-requires
-value_of-t-requires c = one-to-four-inside _ _ c.digits-n.ensures (sym c.is_one_to_four.ensures ∙ c.if-not-is_one_to_four.false)
+pub returns-in_err-s : goal.returns-in_err-s
+returns-in_err-s c =
+    c.from_residual-in_err-s.ensures ∙ rest-other _ _ c.in_err-s.ensures.cases ∙ line-number _ c.in_ok-t.ensures
 
-pub slice_bounds-rest-count : goal.slice_bounds-rest-count
-slice_bounds-rest-count c = inside _ _ c.digits-n.ensures
+pub returns-in_err-r : goal.returns-in_err-r
+returns-in_err-r c =
+    c.from_residual-in_err-r.ensures
+    ∙ second-none _ _ c.in_err-r.ensures
+    ∙ rest-space _ _ _ c.in_ok-s.ensures.cases.0 c.in_ok-s.ensures.cases.1
+    ∙ line-number _ c.in_ok-t.ensures
 
-pub slice_bounds-rest-start : goal.slice_bounds-rest-start
-slice_bounds-rest-start c = inside _ _ c.digits-n.ensures
+pub returns-then-eq : goal.returns-then-eq
+returns-then-eq c =
+    second-end _ _ c.in_ok-r.ensures (end-newline c.in_ok-r.s.now c.as_slice.ensures c.if-eq.ensures)
+    ∙ rest-space _ _ _ c.in_ok-s.ensures.cases.0 c.in_ok-s.ensures.cases.1
+    ∙ line-number _ c.in_ok-t.ensures
 
-pub returns : goal.returns
-returns c =
-    c.rest.ensures
-    ∙ line_read _ _ c.digits-n.ensures _ (sym c.is_one_to_four.ensures ∙ c.if-not-is_one_to_four.false) c.value_of-t.ensures
+pub returns-else-eq : goal.returns-else-eq
+returns-else-eq c =
+    second-more _ _ c.in_ok-r.ensures (end-newline c.in_ok-r.s.now c.as_slice.ensures c.if-eq.ensures)
+    ∙ rest-space _ _ _ c.in_ok-s.ensures.cases.0 c.in_ok-s.ensures.cases.1
+    ∙ line-number _ c.in_ok-t.ensures
