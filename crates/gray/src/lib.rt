@@ -2,50 +2,29 @@
 // specs/Digits.antt).
 #![tactic(auto)]
 
-ghost use Rattle.std.specs.Prelude.{◌≡◌, [], ◌<◌, ◌≤◌};
-ghost use Rattle.group_theory.specs.Group.{hd, tl};
+ghost use Rattle.std.specs.Prelude.{◌≡◌, []};
 ghost use Rattle.words_theory.specs.Digits as digits;
 ghost use Rattle.words_theory.specs.Digits.{gray};
-
-// Whether a byte is not 0, as a number.
-fn flag(c: u8) -> u8
-    ensures { (result ≤ 1) × (c ≡ 0 → result ≡ 0) × (0 < c → result ≡ 1) }
-{
-    if c != 0 {
-        return 1;
-    }
-    0
-}
 
 // The digit of two places: by two choices that need no jump, so that a loop of it becomes vector code.
 pub fn digit(b: u8, c: u8) -> u8
     ensures { result ≡ digits.digit b c }
 {
-    let low = flag(c);
+    let low = u8::from(c != 0);
     if b != 0 {
         return 3 - low;
     }
     low
 }
 
-// The first and the second place of a digit.
-pub fn first_half(d: u8) -> u8
-    ensures { result ≡ hd (gray d []) }
+// The two places of a digit.
+pub fn places(d: u8) -> [u8; 2]
+    ensures { result ≡ gray d [] }
 {
-    if d < 2 {
-        return 0;
+    match d {
+        0 => [0, 0],
+        1 => [0, 1],
+        2 => [1, 1],
+        _ => [1, 0],
     }
-    1
-}
-
-pub fn second_half(d: u8) -> u8
-    ensures { result ≡ hd (tl (gray d [])) }
-{
-    if d == 1 {
-        return 1;
-    }
-    if d == 2 {
-        return 1;
-    }
-    0
 }

@@ -1,24 +1,33 @@
 -- `gray::digit` meets its contract: the Gray map, read. Assumes nothing.
 use mathlib.Core.Path.{◌≡◌, refl}
-use Prim.Native.Nat.{ℕ, zero, suc, ◌-◌, ◌<◌}
+use mathlib.Core.Bool.{not}
+use Prim.Native.Nat.{ℕ, zero, suc, ◌-◌, ◌≤◌}
 use native.Mathlib.Omega.{arith}
+use lib.Dec.{eqb}
+use mir.Val.{bool_byte}
+use borrow.Author.Tests.{ne_eqb}
 use Rattle.words_theory.specs.Digits as digits
 use Rattle.gray.proofs.digit.Goals as goal
 
-upper : (b c l : ℕ) → (b ≡ 0 → ⊥) → (c ≡ 0 → l ≡ 0) → (0 < c → l ≡ 1) → 3 - l ≡ digits.digit b c
-upper zero c l n f g = absurd (n refl)
-upper (suc b) zero l n f g = let e = f refl in rw e
-upper (suc b) (suc c) l n f g = let e : l ≡ 1 = g (omega arith) in rw e
+-- whether a byte is not 0, as a number
+small : (c : ℕ) → bool_byte (not (eqb c 0)) ≤ 1
+small zero = omega arith
+small (suc c) = rw (ne_eqb (suc c) 0 (omega arith)) (omega arith)
 
-lower : (b c l : ℕ) → b ≡ 0 → (c ≡ 0 → l ≡ 0) → (0 < c → l ≡ 1) → l ≡ digits.digit b c
-lower b zero l z f g = rw z (f refl)
-lower b (suc c) l z f g = rw z (g (omega arith))
+upper : (b c l : ℕ) → (b ≡ 0 → ⊥) → l ≡ bool_byte (not (eqb c 0)) → 3 - l ≡ digits.digit b c
+upper zero c l n e = absurd (n refl)
+upper (suc b) zero l n e = rw e
+upper (suc b) (suc c) l n e = rw (e, ne_eqb (suc c) 0 (omega arith))
+
+lower : (b c l : ℕ) → b ≡ 0 → l ≡ bool_byte (not (eqb c 0)) → l ≡ digits.digit b c
+lower b zero l z e = rw (z, e)
+lower b (suc c) l z e = rw (z, e, ne_eqb (suc c) 0 (omega arith))
 
 pub overflow_sub-result : goal.overflow_sub-result
-overflow_sub-result c = omega (arith, c.flag-low.ensures.0)
+overflow_sub-result c = rw c.from-low.ensures (let h = small c.args.c in omega arith)
 
 pub returns-then-b-ne0 : goal.returns-then-b-ne0
-returns-then-b-ne0 c = upper _ _ _ c.if-b-ne0.true c.flag-low.ensures.1 c.flag-low.ensures.2
+returns-then-b-ne0 c = upper _ _ _ c.if-b-ne0.true c.from-low.ensures
 
 pub returns : goal.returns
-returns c = lower c.args.b c.args.c c.flag-low.result (omega arith) c.flag-low.ensures.1 c.flag-low.ensures.2
+returns c = lower _ _ _ c.if-b-ne0.false c.from-low.ensures

@@ -4,17 +4,11 @@ use native.Mathlib.Omega.{arith}
 use Rattle.group_theory.proofs.Fill.{first_step, first_found, first-end}
 use Rattle.group.proofs.first.Goals as goal
 
-pub returns-then-x-i-ne0 : goal.returns-then-x-i-ne0
-returns-then-x-i-ne0 c =
-    let l = c.before.before in
-    omega (arith, first_found l.args.x l.loop-i.i (search rules) c.if-x-i-ne0.true)
+pub returns-then-c-ne0 : goal.returns-then-c-ne0
+returns-then-c-ne0 c = omega (arith, c.loop-i.invariant, first_found c.args.x c.loop-i.i (search rules) c.if-c-ne0.true)
 
 pub loop-i-preserved : goal.loop-i-preserved
-loop-i-preserved c =
-    let l = c.before.before in
-    omega (arith, first_step l.args.x l.loop-i.i (search rules) c.if-x-i-ne0.false)
+loop-i-preserved c = omega (arith, c.loop-i.invariant, first_step c.args.x c.loop-i.i (search rules) c.if-c-ne0.false)
 
 pub returns : goal.returns
-returns c =
-    let l = c.before in
-    omega (arith, first-end l.args.x l.loop-i.i (search rules))
+returns c = omega (arith, c.loop-i.invariant, first-end c.args.x c.loop-i.i (search rules))

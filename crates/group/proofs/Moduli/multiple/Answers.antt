@@ -1,4 +1,4 @@
--- `group::multiple` meets its contract: the loop fills the multiple from the front. Assumes nothing.
+-- `group::Moduli::multiple` meets its contract: the loop fills the multiple from the front. Assumes nothing.
 use mathlib.Core.Path.{sym, ◌∙◌}
 use Prim.Native.Nat.{◌%◌, ◌≤◌}
 use native.Mathlib.Omega.{arith}
@@ -6,7 +6,7 @@ use native.Mathlib.Nat.{mul-le-mul}
 use lib.ListN.{get_or}
 use Rattle.group_theory.specs.Group.{one, moduli}
 use Rattle.group_theory.proofs.Fill.{fill_step, fill_done, modulus-pos, length-moduli, length-times, times-at, times_mod}
-use Rattle.group.proofs.multiple.Goals as goal
+use Rattle.group.proofs.Moduli.multiple.Goals as goal
 
 pub overflow_mul-r : goal.overflow_mul-r
 overflow_mul-r c =
@@ -24,10 +24,10 @@ loop-i-preserved c =
     let g = c.args in
     let h = c.loop-i-test.true in
     rw c.modulus.ensures
-    (fill_step _ _ _ _ _ c.loop-i.invariant h (length-times _ _ _ ∙ length-moduli g.a g.b)
-    (times_mod (get_or (moduli g.a g.b) c.loop-i.i one) _ _ ∙ sym (times-at (moduli g.a g.b) _ _ _ (omega (arith, length-moduli g.a g.b)))))
+    (fill_step _ _ _ _ _ c.loop-i.invariant h (length-times _ _ _ ∙ length-moduli g.self.a g.self.b)
+    (times_mod (get_or (moduli g.self.a g.self.b) c.loop-i.i one) _ _ ∙ sym (times-at (moduli g.self.a g.self.b) _ _ _ (omega (arith, length-moduli g.self.a g.self.b)))))
 
 pub returns : goal.returns
 returns c =
     let g = c.args in
-    fill_done _ _ _ _ c.loop-i.invariant c.loop-i-test.false (length-times _ _ _ ∙ length-moduli g.a g.b)
+    fill_done _ _ _ _ c.loop-i.invariant c.loop-i-test.false (length-times _ _ _ ∙ length-moduli g.self.a g.self.b)
