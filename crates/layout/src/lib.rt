@@ -16,9 +16,9 @@ ghost use Rattle.layout_theory.specs.Parts.{Located};
 ghost use Rattle.blocks_theory.specs.Blocks.{plus};
 ghost use Rattle.blocks_theory.specs.Indices.{Signed, standing, Tells, AllBelow};
 
-use group::Element;
+use group::{Element, Moduli};
 pub use layout_theory::Shape;
-pub use parameters::{admitted, shape_of};
+use parameters::Code;
 
 // 2^t.
 fn power(t: u32) -> u32
@@ -33,7 +33,8 @@ fn with_one(a: usize, b: usize, i: usize, x: u8) -> Element
     requires { i < 12 }
     ensures { result ≡ set (zeros (moduli a b)) i x }
 {
-    let mut e = group::zero(a, b);
+    let m = Moduli { a, b };
+    let mut e = m.zero();
     e[i] = x;
     e
 }
@@ -74,20 +75,20 @@ fn message_element(a: usize, b: usize, i: u32, part: u32) -> Element
 }
 
 // The element of a place; zero where the code has no such place.
-pub fn element_at(t: u32, r: u32, place: u32) -> Element
-    ensures { result ≡ element_for t r place }
+pub fn element_at(code: Code, place: u32) -> Element
+    ensures { result ≡ element_for code.t code.r place }
 {
-    let s = parameters::shape_of(t, r);
+    let s = code.shape();
     let a = s.a;
     let b = s.b;
     let n = s.places;
     let k = s.binary;
     let message = s.message;
     if place == 0 {
-        return group::zero(a, b);
+        return Moduli { a, b }.zero();
     }
     if n < place {
-        return group::zero(a, b);
+        return Moduli { a, b }.zero();
     }
     let i = place - 1;
     if i < message {
@@ -98,10 +99,10 @@ pub fn element_at(t: u32, r: u32, place: u32) -> Element
 }
 
 // The place of an element; 0 where no place of the code has it.
-pub fn place_of(t: u32, r: u32, e: Element) -> u32
-    ensures { result ≡ place_for t r e }
+pub fn place_of(code: Code, e: Element) -> u32
+    ensures { result ≡ place_for code.t code.r e }
 {
-    let s = parameters::shape_of(t, r);
+    let s = code.shape();
     let a = s.a;
     let b = s.b;
     let n = s.places;

@@ -15,17 +15,17 @@ use Rattle.layout.proofs.element_at.Goals.{Else-n-place}
 pub returns-then-place-eq0 : goal.returns-then-place-eq0
 returns-then-place-eq0 c =
     let g = c.args in
-    c.zero.ensures ∙ zeros-for _ _ _ _ ∙ sym (element-none g.t g.r g.place c.if-place-eq0.true)
+    c.zero.ensures ∙ zeros-for _ _ _ _ ∙ sym (element-none g.code.t g.code.r g.place c.if-place-eq0.true)
 
 pub returns-then-n-place : goal.returns-then-n-place
 returns-then-n-place c =
     let g = c.args in
-    let h = subst (λ (x : Shape). x.places < g.place) c.shape_of-s.ensures c.if-n-place.true in
-    c.zero-then-n-place.ensures ∙ zeros-for _ _ _ _ ∙ sym (element-beyond g.t g.r g.place h)
+    let h = subst (λ (x : Shape). x.places < g.place) c.shape-s.ensures c.if-n-place.true in
+    c.zero-then-n-place.ensures ∙ zeros-for _ _ _ _ ∙ sym (element-beyond g.code.t g.code.r g.place h)
 
 -- past the first two tests the parameters are admitted
-past : (c : Else-n-place) → Known c.args.t c.args.r c.shape_of-s.result
-past c = known _ _ _ c.shape_of-s.ensures (omega arith)
+past : (c : Else-n-place) → Known c.args.code.t c.args.code.r c.shape-s.result
+past c = known _ _ _ c.shape-s.ensures (omega arith)
 
 pub narrow-requires : goal.narrow-requires
 narrow-requires c = let k = sizes-known _ _ _ (past (goal.at.narrow-requires c).Else-n-place) in omega arith
@@ -45,7 +45,7 @@ returns-then-i-message c =
     let k = past (goal.at.returns-then-i-message c).Else-n-place in
     let e : g.place - 1 + 1 ≡ g.place = back g.place c.if-place-eq0.false in
     c.message_element.ensures
-    ∙ rw (moduli-known _ _ _ k, e) (sym (element-for g.t g.r g.place k.admitted))
+    ∙ rw (moduli-known _ _ _ k, e) (sym (element-for g.code.t g.code.r g.place k.admitted))
 
 pub check_element-requires : goal.check_element-requires
 check_element-requires c = let k = sizes-known _ _ _ (past (goal.at.check_element-requires c).Else-n-place) in omega arith
@@ -57,7 +57,7 @@ check-number x y m p e h l = omega arith
 pub returns : goal.returns
 returns c =
     let g = c.args in
-    let s = c.shape_of-s.result in
+    let s = c.shape-s.result in
     let k = past (goal.at.returns c).Else-n-place in
     let z = sizes-known _ _ _ k in
     let ms = moduli s.a s.b in
@@ -68,4 +68,4 @@ returns c =
     ∙ sym (at-check ms i)
     ∙ ap (element_at ms) e
     ∙ ap (λ (x : List Modulus). element_at x g.place) (moduli-known _ _ _ k)
-    ∙ sym (element-for g.t g.r g.place k.admitted)
+    ∙ sym (element-for g.code.t g.code.r g.place k.admitted)

@@ -14,21 +14,21 @@ use Rattle.layout.proofs.place_of.Goals.{Else-n-eq0}
 pub returns-then-n-eq0 : goal.returns-then-n-eq0
 returns-then-n-eq0 c =
     let g = c.args in
-    sym (place-nowhere g.t g.r g.e c.shape_of-s.result c.shape_of-s.ensures c.if-n-eq0.true)
+    sym (place-nowhere g.code.t g.code.r g.e c.shape-s.result c.shape-s.ensures c.if-n-eq0.true)
 
 -- past the first test the parameters are admitted
-past : (c : Else-n-eq0) → Known c.args.t c.args.r c.shape_of-s.result
-past c = known _ _ _ c.shape_of-s.ensures (omega arith)
+past : (c : Else-n-eq0) → Known c.args.code.t c.args.code.r c.shape-s.result
+past c = known _ _ _ c.shape-s.ensures (omega arith)
 
 -- the place at the moduli in hand is the place in the code
 here : (c : Else-n-eq0)
-    → let s = c.shape_of-s.result in
+    → let s = c.shape-s.result in
     let g = c.args in
-    place_of (moduli s.a s.b) g.e ≡ place_for g.t g.r g.e
+    place_of (moduli s.a s.b) g.e ≡ place_for g.code.t g.code.r g.e
 here c =
     let k = past c in
     let g = c.args in
-    ap (λ (ms : List Modulus). place_of ms g.e) (moduli-known _ _ _ k) ∙ sym (place-for g.t g.r g.e k.admitted)
+    ap (λ (ms : List Modulus). place_of ms g.e) (moduli-known _ _ _ k) ∙ sym (place-for g.code.t g.code.r g.e k.admitted)
 
 pub is_element-requires : goal.is_element-requires
 is_element-requires c = (sizes-known _ _ _ (past c)).room
@@ -51,5 +51,5 @@ returns-then-is_element c = c.place_of_valid.ensures ∙ here (goal.at.returns-t
 
 pub returns : goal.returns
 returns c =
-    let s = c.shape_of-s.result in
+    let s = c.shape-s.result in
     sym (place_none (moduli s.a s.b) c.args.e (λ v. absurd (c.is_element.ensures.no c.if-is_element.false v))) ∙ here (goal.at.returns c).Else-n-eq0
