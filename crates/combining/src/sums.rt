@@ -1,77 +1,94 @@
 // Words combined: binary places modulo 2, pairs modulo 4. Parts 1 and 3 of the layout are single
 // places, parts 2 and 4 are pairs, each with two places one after the other; of a shortened code part 1
-// is shorter, or there is none and part 2 is shorter by whole pairs.
-ghost use Rattle.std.specs.Prelude.{◌≡◌, ◌++◌, ◌+◌, ◌-◌, ◌%◌, ◌≤◌, length, drop};
+// is shorter, or there is none and part 2 is shorter by whole pairs. A sum of two bytes that wraps at 256
+// leaves the same remainders.
+ghost use Rattle.std.specs.Prelude.{◌≡◌, ◌++◌, ◌-◌, ◌%◌, ◌≤◌, length, drop};
 ghost use Rattle.group_theory.specs.Group.{moduli};
+ghost use Rattle.layout_theory.specs.Calls.{shape_for};
 ghost use Rattle.shortened_theory.specs.Code.{shortened_combine};
-ghost use Rattle.loops_theory.specs.Writing.{Onward, Cut, SumsTwo, SumsFour};
+ghost use Rattle.loops_theory.specs.Writing.{Cut, SumsTwo, SumsFour};
+ghost use Rattle.combining.specs.Ends.{EndsAt};
 
-use layout_theory::Shape;
+use parameters::Code;
 
-// The sum of two bytes modulo 2, and of two digits modulo 4; no sum of the bytes themselves wraps.
-fn sum_two(b: u8, c: u8) -> u8
-    ensures { result ≡ (b + c) % 2 }
+// Binary places.
+fn singles(first: &[u8], second: &[u8], out: &mut [u8])
+    requires { (length first.now ≡ length out.old) × (length second.now ≡ length out.old) }
+    ensures { SumsTwo first.now second.now 0 (length out.old) out.new }
 {
-    (b % 2 + c % 2) % 2
-}
-
-fn sum_four(d: u8, e: u8) -> u8
-    ensures { result ≡ (d + e) % 4 }
-{
-    (d % 4 + e % 4) % 4
-}
-
-// Binary places, from the index start up to end.
-fn singles(first: &[u8], second: &[u8], out: &mut [u8], start: usize, end: usize)
-    requires { (start ≤ end) × (end ≤ length first.now) × (end ≤ length second.now) × (end ≤ length out.old) }
-    ensures { Onward (SumsTwo first.now second.now start end) start end out.old out.new }
-{
-    let mut i = start;
-    while i < end {
-        let b = first[i];
-        let c = second[i];
-        out[i] = sum_two(b, c);
-        i += 1;
+    for (i, b) in out.iter_mut().enumerate() {
+        *b = first[i].wrapping_add(second[i]) % 2;
     }
 }
 
-// Pairs, from the index start up to end.
-fn pairs(first: &[u8], second: &[u8], out: &mut [u8], start: usize, end: usize)
-    requires { (start ≤ end) × ((end - start) % 2 ≡ 0) × (end ≤ length first.now) × (end ≤ length second.now) × (end ≤ length out.old) }
-    ensures { Onward (SumsFour first.now second.now start end) start end out.old out.new }
+// Pairs.
+fn pairs(first: &[u8], second: &[u8], out: &mut [u8])
+    requires { (length first.now ≡ length out.old) × (length second.now ≡ length out.old) × (length out.old % 2 ≡ 0) }
+    ensures { SumsFour first.now second.now 0 (length out.old) out.new }
 {
-    let mut i = start;
-    while i < end {
+    for i in (0..out.len()).step_by(2) {
         let d = gray::digit(first[i], first[i + 1]);
         let e = gray::digit(second[i], second[i + 1]);
-        let f = sum_four(d, e);
-        out[i] = gray::first_half(f);
-        out[i + 1] = gray::second_half(f);
-        i += 2;
+        let [b, c] = gray::places(d.wrapping_add(e) % 4);
+        out[i] = b;
+        out[i + 1] = c;
     }
 }
 
-// n places without d of them, or none.
-fn less(n: usize, d: usize) -> usize
-    ensures { result ≡ n - d }
-{
-    if d < n { n - d } else { 0 }
+// Where the four parts of what is left of a word end.
+struct Ends {
+    part: usize,
+    message: usize,
+    units: usize,
+    places: usize,
 }
 
-// Writes two words combined over the front of `out`, of a code without its first d places.
-pub(crate) fn combine(s: Shape, d: usize, first: &[u8], second: &[u8], out: &mut [u8])
-    requires { Cut s d × (s.places - d ≤ length first.now) × (s.places - d ≤ length second.now) × (s.places - d ≤ length out.old) }
-    ensures { out.new ≡ shortened_combine (moduli s.a s.b) d first.now second.now ++ drop (s.places - d) out.old }
+impl Ends {
+    // The ends of a code's parts, where its first s places are left out.
+    fn of(code: Code) -> Ends
+        requires { Cut (shape_for code.t code.r) code.s }
+        ensures { EndsAt (shape_for code.t code.r) code.s result.part result.message result.units result.places }
+    {
+        let h = code.shape();
+        let s = code.s as usize;
+        let message = h.message as usize - s;
+        Ends {
+            part: (h.binary as usize - h.a).saturating_sub(s),
+            message,
+            units: message + h.a,
+            places: h.places as usize - s,
+        }
+    }
+}
+
+// Writes two words combined over the front of `out`, of a code without its first s places.
+pub(crate) fn combine(code: Code, first: &[u8], second: &[u8], out: &mut [u8])
+    requires cut { Cut (shape_for code.t code.r) code.s }
+    requires first { (shape_for code.t code.r).places - code.s ≤ length first.now }
+    requires second { (shape_for code.t code.r).places - code.s ≤ length second.now }
+    requires room { (shape_for code.t code.r).places - code.s ≤ length out.old }
+    ensures { let h = shape_for code.t code.r in out.new ≡ shortened_combine (moduli h.a h.b) code.s first.now second.now ++ drop (h.places - code.s) out.old }
 {
-    let a = s.a;
-    let places = s.places as usize;
-    let binary = s.binary as usize;
-    let message = s.message as usize;
-    let part = less(binary - a, d);
-    let front = message - d;
-    let rest = message + a - d;
-    singles(first, second, out, 0, part);
-    pairs(first, second, out, part, front);
-    singles(first, second, out, front, rest);
-    pairs(first, second, out, rest, places - d);
+    let Ends {
+        part,
+        message,
+        units,
+        places,
+    } = Ends::of(code);
+    singles(&first[..part], &second[..part], &mut out[..part]);
+    pairs(
+        &first[part..message],
+        &second[part..message],
+        &mut out[part..message],
+    );
+    singles(
+        &first[message..units],
+        &second[message..units],
+        &mut out[message..units],
+    );
+    pairs(
+        &first[units..places],
+        &second[units..places],
+        &mut out[units..places],
+    );
 }

@@ -3,10 +3,11 @@ use mathlib.Core.Path.{◌≡◌, refl, sym, ap, ◌∙◌}
 use mathlib.Core.Logic.{◌≢◌}
 use mathlib.Core.Bool.{Bool, true, false, ◌&&◌}
 use mathlib.Core.List.{List, ◌++◌}
-use Prim.Native.Nat.{ℕ, ◌-◌, ◌≤◌}
+use Prim.Native.Nat.{ℕ, zero, suc, ◌-◌, ◌≤◌}
 use native.Mathlib.Omega.{arith}
 use borrow.Author.Tests.{ne_eqb, leb-true}
 use lib.Dec.{eqb, leb}
+use Rattle.std.specs.Prelude.{Result, Ok, Err}
 use lib.ListN.{length, drop}
 use Rattle.group_theory.specs.Group.{Modulus, moduli, zeros}
 use Rattle.group_theory.specs.Sign.{all_zero}
@@ -17,7 +18,7 @@ use Rattle.layout_theory.specs.Calls.{shape_for}
 use Rattle.layout_theory.specs.declared.Shape.{Shape}
 use Rattle.layout_theory.proofs.Parameters.{Known, known-for, moduli-known, zeros-for}
 use Rattle.words_theory.specs.Calls as calls
-use Rattle.words_theory.specs.Calls.{bad_from}
+use Rattle.words_theory.specs.Calls.{bad_from, if_bits}
 use Rattle.shortened_theory.specs.Code.{fill, shortened_syndrome, shortened_encode, shortened_combine, shortened_inverse}
 use Rattle.shortened_theory.specs.Calls.{allowed_for, fits_word, fits_message, scanned_for, fault_at_for, encode_bad_for}
 use Rattle.shortened_theory.specs.Calls.{shortened_syndrome_for, shortened_encode_for, shortened_combine_for, shortened_invert_for}
@@ -59,6 +60,11 @@ fault-at-zero t r s e w h = go (fits_word t r s (length w))
     go true = fault-zero (moduli_for t r) e (fill s w) h
     go false = refl
 
+-- ---- the lowest place of a byte above 1 as an answer
+pub told-bad : {A : Type 0} (b : ℕ) (x : A) (p : ℕ) → b ≡ p → p ≢ 0 → Err b ≡ if_bits p x
+told-bad b x zero e n = absurd (n refl)
+told-bad b x (suc p) e n = ap Err e
+
 -- ---- the pass over a word
 module _ (t r s : ℕ) (w : List ℕ) where
   syndrome-none : fits_word t r s (length w) ≡ false → zeros (moduli 0 0) ≡ shortened_syndrome_for t r s w
@@ -69,22 +75,18 @@ module _ (t r s : ℕ) (w : List ℕ) where
   unfolding shortened_syndrome_for
   syndrome-fits y = rw y
 
-  pub scan-none : fits_word t r s (length w) ≡ false → record { bad = 0; syndrome = zeros (moduli 0 0) } ≡ scanned_for t r s w
+  pub scan-none : fits_word t r s (length w) ≡ false → Ok (zeros (moduli 0 0)) ≡ scanned_for t r s w
   unfolding scanned_for
-  scan-none y = go (eqb (bad_from 1 w) 0) refl
-    where
-      go : (b : Bool) → eqb (bad_from 1 w) 0 ≡ b → record { bad = 0; syndrome = zeros (moduli 0 0) } ≡ scanned_for t r s w
-      go true e = rw (y, e, ← syndrome-none y)
-      go false e = rw (y, e, zeros-for 0 0 (binary_of t r) (quaternary_of t r))
+  scan-none y = ap Ok (syndrome-none y) ∙ ap (λ (b : Bool). if_bits (pick b (bad_from 1 w) 0) (shortened_syndrome_for t r s w)) (sym y)
 
   module _ (y : fits_word t r s (length w) ≡ true) where
-    pub scan-bad : (b : ℕ) → b ≡ bad_from 1 w → bad_from 1 w ≢ 0 → record { bad = b; syndrome = zeros (moduli 0 0) } ≡ scanned_for t r s w
+    pub scan-bad : (b : ℕ) → b ≡ bad_from 1 w → bad_from 1 w ≢ 0 → Err b ≡ scanned_for t r s w
     unfolding scanned_for
-    scan-bad b e n = rw (y, e, ne_eqb (bad_from 1 w) 0 n, zeros-for 0 0 (binary_of t r) (quaternary_of t r))
+    scan-bad b e n = rw y (told-bad b (shortened_syndrome_for t r s w) (bad_from 1 w) e n)
 
-    pub scan_good : (x : List ℕ) → bad_from 1 w ≡ 0 → x ≡ shortened_syndrome (moduli_for t r) s w → record { bad = 0; syndrome = x } ≡ scanned_for t r s w
+    pub scan_good : (x : List ℕ) → bad_from 1 w ≡ 0 → x ≡ shortened_syndrome (moduli_for t r) s w → Ok x ≡ scanned_for t r s w
     unfolding scanned_for
-    scan_good x z e = rw (y, z, e ∙ syndrome-fits y)
+    scan_good x z e = rw (y, z) (ap Ok (e ∙ syndrome-fits y))
 
 -- ---- outputs
 -- nothing is written where a test of what is read says no, or there is no room
@@ -98,21 +100,26 @@ module _ (fits : Bool) (n : ℕ) (new old : List ℕ) where
   wide : fits ≡ true → leb n (length old) ≡ true → new ++ drop n old ≡ calls.written (fits && leb n (length old)) n new old
   wide y e = rw (y, e)
 
+-- what encoding answers and leaves in the output
+pub record Encoded (t r s : ℕ) (m old : List ℕ) (x : Result Unit ℕ) (new : List ℕ) : Type 0 where
+  pub bad : x ≡ if_bits (encode_bad_for t r s m old) tt
+  pub bytes : new ≡ shortened_encode_for t r s m old
+
 -- a message: nothing is done where it is not of its length or there is no room, nor where a byte is above 1, whose place is told
 module _ (t r s : ℕ) (m old : List ℕ) where
-  pub encode-none : fits_message t r s (length m) ≡ false → (0 ≡ encode_bad_for t r s m old) × (old ≡ shortened_encode_for t r s m old)
+  pub encode-none : fits_message t r s (length m) ≡ false → Encoded t r s m old (Ok tt) old
   unfolding encode_bad_for shortened_encode_for
-  encode-none y = (rw y, rw y)
+  encode-none y = record { bad = rw y; bytes = rw y }
 
-  pub encode-narrow : fits_message t r s (length m) ≡ true → leb (places_of t - s) (length old) ≡ false → (0 ≡ encode_bad_for t r s m old) × (old ≡ shortened_encode_for t r s m old)
+  pub encode-narrow : fits_message t r s (length m) ≡ true → leb (places_of t - s) (length old) ≡ false → Encoded t r s m old (Ok tt) old
   unfolding encode_bad_for shortened_encode_for
-  encode-narrow y e = (rw (y, e), rw (y, e))
+  encode-narrow y e = record { bad = rw (y, e); bytes = rw (y, e) }
 
   module _ (y : fits_message t r s (length m) ≡ true) (e : leb (places_of t - s) (length old) ≡ true) where
-    pub encode-fits : (x : ℕ) (new : List ℕ) → x ≡ bad_from 1 m → new ≡ calls.written (eqb (bad_from 1 m) 0) (places_of t - s) (shortened_encode (moduli_for t r) s m) old
-        → (x ≡ encode_bad_for t r s m old) × (new ≡ shortened_encode_for t r s m old)
+    pub encode-fits : (x : Result Unit ℕ) (new : List ℕ) → x ≡ if_bits (bad_from 1 m) tt → new ≡ calls.written (eqb (bad_from 1 m) 0) (places_of t - s) (shortened_encode (moduli_for t r) s m) old
+        → Encoded t r s m old x new
     unfolding encode_bad_for shortened_encode_for
-    encode-fits x new f g = (rw (y, e) f, rw (y, e) g)
+    encode-fits x new f g = record { bad = rw (y, e) f; bytes = rw (y, e) g }
 
 module _ (t r s : ℕ) (w old : List ℕ) where
   pub invert-none : fits_word t r s (length w) ≡ false → old ≡ shortened_invert_for t r s w old

@@ -1,13 +1,15 @@
 -- What the loop of `combining::sums::pairs` keeps true.
 use mathlib.Core.Path.{◌≡◌}
-use Prim.Native.Nat.{◌-◌, ◌%◌, ◌≤◌}
+use Prim.Native.Nat.{◌-◌, ◌%◌}
 use lib.ListN.{length}
-use Rattle.loops_theory.specs.Writing.{Onward, SumsFour}
+use Rattle.loops_theory.specs.Writing.{SumsFour}
 use Rattle.combining.proofs.sums.pairs.Given as goal
 
 abbrev pub invariant-loop-i : goal.invariant-loop-i
-invariant-loop-i l =
-    (l.start ≤ l.i) × (l.i ≤ l.end) × ((l.i - l.start) % 2 ≡ 0) × (length l.out ≡ length l.initial.out) × Onward (SumsFour l.first l.second l.start l.i) l.start l.i l.initial.out l.out
+invariant-loop-i l = record {
+  whole : l.i % 2 ≡ 0;
+  sums : SumsFour l.first l.second 0 l.i l.out;
+}
 
 abbrev pub decreases-loop-i : goal.decreases-loop-i
-decreases-loop-i l = l.end - l.i
+decreases-loop-i l = length l.initial.out - l.i

@@ -5,45 +5,35 @@ use Prim.Native.Nat.{ℕ, ◌-◌}
 use native.Mathlib.Omega.{arith}
 use Rattle.group_theory.specs.Group.{Modulus, moduli, sum}
 use Rattle.layout_theory.specs.Parameters.{moduli_for}
-use Rattle.layout_theory.specs.Layout.{slots}
 use Rattle.layout_theory.proofs.Parameters.{known-for, moduli-known}
-use Rattle.words_theory.specs.Halves.{other_at}
 use Rattle.loops_theory.proofs.Told.{told-halves, told-apart}
+use Rattle.places.proofs.OtherPlace.{Told, told-at}
 use Rattle.places.proofs.ones.two_ones.Goals as goal
-use Rattle.places.proofs.ones.two_ones.Goals.{After-other_index-k}
+use Rattle.places.proofs.ones.two_ones.Goals.{After-other_half}
 
-pub other_index-k-requires : goal.other_index-k-requires
-other_index-k-requires c =
-    let g = c.args in
-    let p = c.requires in
-    let k = known-for g.t g.r g.s p.0 p.1.admitted in
-    ((g.t, g.r, p.0), omega (arith, k.places, p.1.second, p.1.second_most))
-
--- the moduli in hand are those of the code, and the index found is that of the other half of j
-module _ (c : After-other_index-k) where
-  same-moduli : moduli c.args.s.a c.args.s.b ≡ moduli_for c.args.t c.args.r
+-- the moduli in hand are those of the code, and what the other half of j is
+module _ (c : After-other_half) where
+  same-moduli : moduli c.shape-h.result.a c.shape-h.result.b ≡ moduli_for c.args.code.t c.args.code.r
   same-moduli =
       let g = c.args in
-      let p = c.requires in
-      moduli-known g.t g.r g.s (known-for g.t g.r g.s p.0 p.1.admitted)
+      moduli-known g.code.t g.code.r c.shape-h.result (known-for g.code.t g.code.r c.shape-h.result c.shape-h.ensures c.requires.admitted)
 
-  found : c.other_index-k.result ≡ other_at (slots (moduli_for c.args.t c.args.r)) (c.args.j - 1)
-  found = c.other_index-k.ensures ∙ ap (λ (ms : List Modulus). other_at (slots ms) (c.args.j - 1)) same-moduli
+  told : Told c.args.code.t c.args.code.r c.args.j c.other_half.result
+  told = told-at _ _ _ _ c.other_half.ensures c.requires.admitted c.requires.second c.requires.second_most
 
-pub returns-then-k-i : goal.returns-then-k-i
-returns-then-k-i c =
+pub returns-then-other_half-i : goal.returns-then-other_half-i
+returns-then-other_half-i c =
     let g = c.args in
-    let p = c.requires in
-    let x = c.element_at-x.ensures in
-    c.add.ensures ∙ ap₂ (λ (ms : List Modulus) (e : List ℕ). sum ms e e) (same-moduli (goal.at.returns-then-k-i c).After-other_index-k) x
-    ∙ sym (told-halves g.t g.r g.i g.j p.1 (sym (found (goal.at.returns-then-k-i c).After-other_index-k) ∙ c.if-k-i.true))
+    let q = (goal.at.returns-then-other_half-i c).After-other_half in
+    c.add.ensures ∙ ap₂ (λ (ms : List Modulus) (e : List ℕ). sum ms e e) (same-moduli q) c.element_at-x.ensures
+    ∙ sym (told-halves g.code.t g.code.r g.i g.j c.requires (sym (told q).index ∙ ap (λ (n : ℕ). n - 1) c.if-other_half-i.true))
 
-pub returns : goal.returns
-returns c =
+pub returns-else-other_half-i : goal.returns-else-other_half-i
+returns-else-other_half-i c =
     let g = c.args in
-    let p = c.requires in
-    let x = c.element_at-x.ensures in
-    let y = c.element_at.ensures in
-    c.add-2.ensures ∙ ap (λ (ms : List Modulus). sum ms c.element_at-x.result c.element_at.result) (same-moduli (goal.at.returns c).After-other_index-k)
-    ∙ ap₂ (sum (moduli_for g.t g.r)) x y
-    ∙ sym (told-apart g.t g.r g.i g.j p.1 (λ e. c.if-k-i.false (found (goal.at.returns c).After-other_index-k ∙ e)))
+    let q = (goal.at.returns-else-other_half-i c).After-other_half in
+    let k = told q in
+    c.add-else-other_half-i.ensures
+    ∙ ap (λ (ms : List Modulus). sum ms c.element_at-x.result c.element_at.result) (same-moduli q)
+    ∙ ap₂ (sum (moduli_for g.code.t g.code.r)) c.element_at-x.ensures c.element_at.ensures
+    ∙ sym (told-apart g.code.t g.code.r g.i g.j c.requires (λ e. c.if-other_half-i.false (omega (arith, e, k.index, k.some, c.requires.first))))
