@@ -1,9 +1,8 @@
 // Bytes above 1: whether there are some in a stretch of bytes, and the lowest place of one. The highest byte
 // is found many bytes at a time.
-ghost use Rattle.std.specs.Prelude.{◌≡◌, ◌+◌, ◌≤◌, ltb, length, drop};
-ghost use Rattle.layout_theory.specs.Choice.{pick};
+ghost use Rattle.std.specs.Prelude.{◌≡◌, ◌<◌, ◌≤◌, length, slice_index, MatchOption};
 ghost use Rattle.words_theory.specs.Calls.{bad_from};
-ghost use Rattle.loops_theory.specs.Passing.{BitsIn, Highest, Says, head_of};
+ghost use Rattle.loops_theory.specs.Passing.{BitsIn, BadIn, Highest, Says};
 
 // As many bytes as are looked at together where the lowest place is searched.
 const BLOCK: usize = 16;
@@ -15,82 +14,52 @@ pub(crate) fn first_bad(word: &[u8], begin: usize) -> usize
     ensures { result ≡ bad_from 1 word.now }
 {
     let mut start = begin;
-    while BLOCK <= word.len() - start {
-        if bits(word, start, BLOCK) {
-            start += BLOCK;
-        } else {
-            return bad_from(word, start);
-        }
+    while BLOCK <= word.len() - start && bits(&word[start..start + BLOCK]) {
+        start += BLOCK;
     }
-    bad_from(word, start)
+    match first_above(&word[start..]) {
+        Some(i) => start + i + 1,
+        None => 0,
+    }
 }
 
-// As many bytes of a word as are tested before the pass: all of a short one. The array that the pass lays out costs
-// more than the whole test of a word whose bad byte is near its front.
-pub(crate) fn head(count: usize) -> usize
-    ensures { result ≡ head_of count }
+// The index of the first byte above 1.
+fn first_above(bytes: &[u8]) -> Option<usize>
+    ensures { MatchOption result (BitsIn bytes.now 0 (length bytes.now)) (λ i. (i < length bytes.now) × (1 < slice_index bytes.now i) × BitsIn bytes.now 0 i) }
 {
-    if count < 192 {
-        return count;
-    }
-    if count < 1024 { 192 } else { 512 }
+    bytes.iter().position(|b| 1 < *b)
 }
 
-// Whether so many bytes of a word are 0 or 1. The lengths are written out again, so that the loops over 192 and 512
-// bytes are compiled for them.
-pub(crate) fn front(word: &[u8]) -> bool
-    ensures { Says result word.now 0 (head_of (length word.now)) }
+// As many bytes as a word has in its front, if they are 0 or 1: all of a short word. The array that the pass lays
+// out costs more than the whole test of a word whose bad byte is near its front. The lengths are written out, so
+// that the loops over 192 and 512 bytes are compiled for them.
+pub(crate) fn front(word: &[u8]) -> Option<usize>
+    ensures { MatchOption result (BadIn word.now 0 (length word.now)) (λ k. (k ≤ length word.now) × BitsIn word.now 0 k) }
 {
     let n = word.len();
     if n < 192 {
-        return bits(word, 0, n);
+        return bits(word).then_some(n);
     }
     if n < 1024 {
-        return bits(word, 0, 192);
+        return bits(&word[..192]).then_some(192);
     }
-    bits(word, 0, 512)
+    bits(&word[..512]).then_some(512)
 }
 
-// The lowest place byte by byte, from an index on.
-fn bad_from(word: &[u8], start: usize) -> usize
-    requires { start ≤ length word.now }
-    ensures { result ≡ bad_from (start + 1) (drop start word.now) }
+// Whether all of these bytes are 0 or 1.
+pub(crate) fn bits(bytes: &[u8]) -> bool
+    ensures { Says result bytes.now 0 (length bytes.now) }
 {
-    let mut i = start;
-    while i < word.len() {
-        if 1 < word[i] {
-            return i + 1;
-        }
-        i += 1;
-    }
-    0
+    highest(bytes) <= 1
 }
 
-// Whether n bytes from an index on are 0 or 1.
-pub(crate) fn bits(word: &[u8], start: usize, n: usize) -> bool
-    requires { start + n ≤ length word.now }
-    ensures { Says result word.now start (start + n) }
-{
-    highest(word, start, n) <= 1
-}
-
-// The highest of n bytes, or 0 where there is none.
-fn highest(word: &[u8], start: usize, n: usize) -> u8
-    requires { start + n ≤ length word.now }
-    ensures { Highest word.now start (start + n) result }
+// The highest of these bytes, or 0 where there is none.
+fn highest(bytes: &[u8]) -> u8
+    ensures { Highest bytes.now 0 (length bytes.now) result }
 {
     let mut most: u8 = 0;
-    let mut i: usize = 0;
-    while i < n {
-        most = larger(most, word[start + i]);
-        i += 1;
+    for b in bytes {
+        most = most.max(*b);
     }
     most
-}
-
-// The larger of two bytes.
-pub(crate) fn larger(a: u8, b: u8) -> u8
-    ensures { result ≡ pick (ltb a b) b a }
-{
-    if a < b { b } else { a }
 }

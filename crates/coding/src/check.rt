@@ -1,77 +1,49 @@
 // The check part: its digits are the components of an element, a byte for each binary one and two for
 // each quaternary one.
-ghost use Rattle.std.specs.Prelude.{◌≡◌, ◌+◌, ◌*◌, ◌≤◌, ◌++◌, length, take, drop};
+ghost use Rattle.std.specs.Prelude.{◌≡◌, ◌+◌, ◌*◌, ◌≤◌, ◌++◌, length, drop, MatchOption};
 ghost use Rattle.group_theory.specs.Group.{moduli};
 ghost use Rattle.layout_theory.specs.Layout.{units};
 ghost use Rattle.words_theory.specs.Syndrome.{syndrome_over};
 ghost use Rattle.words_theory.specs.Coding.{check_digits};
-ghost use Rattle.loops_theory.specs.Passing.{Tells};
+ghost use Rattle.loops_theory.specs.Passing.{BitsIn, BadIn};
 
 use crate::bits;
-use crate::part::Part;
-use group::Element;
+use group::{Element, Moduli};
 
-// The check places from an index of the word on: their sum is the element with these digits.
-pub(crate) fn read(a: usize, b: usize, word: &[u8], start: usize) -> Part
-    requires { (a + b ≤ 12) × (start + (a + 2 * b) ≤ length word.now) }
-    ensures told { Tells result.good word.now start (start + (a + 2 * b)) }
-    ensures sum { result.sum ≡ syndrome_over (moduli a b) (units (moduli a b)) (drop start word.now) }
+// The sum of the check places: it is the element with these digits. Nothing where a byte is above 1.
+pub(crate) fn read(m: Moduli, check: &[u8]) -> Option<Element>
+    requires { (m.a + m.b ≤ 12) × (length check.now ≡ m.a + 2 * m.b) }
+    ensures { MatchOption result (BadIn check.now 0 (length check.now)) (λ x. BitsIn check.now 0 (length check.now) × (x ≡ syndrome_over (moduli m.a m.b) (units (moduli m.a m.b)) check.now)) }
 {
-    let n = a + b;
     let mut e = [0u8; 12];
-    let mut most: u8 = 0;
-    let mut at = start;
-    let mut i: usize = 0;
-    while i < n {
-        if i < a {
-            let x = word[at];
-            e[i] = x % 2;
-            most = bits::larger(most, x);
+    let mut at: usize = 0;
+    for i in 0..m.a + m.b {
+        if i < m.a {
+            e[i] = check[at] % 2;
             at += 1;
         } else {
-            let x = word[at];
-            let y = word[at + 1];
-            e[i] = gray::digit(x, y);
-            most = bits::larger(bits::larger(most, x), y);
+            e[i] = gray::digit(check[at], check[at + 1]);
             at += 2;
         }
-        i += 1;
     }
-    Part {
-        good: most <= 1,
-        sum: e,
-    }
+    bits::bits(check).then_some(e)
 }
 
-// Writes the check digits of an element from an index on.
-pub(crate) fn write(a: usize, b: usize, e: Element, out: &mut [u8], start: usize)
-    requires { (a + b ≤ 12) × (start + (a + 2 * b) ≤ length out.old) }
-    ensures { out.new ≡ take start out.old ++ (check_digits (moduli a b) e ++ drop (start + (a + 2 * b)) out.old) }
+// Writes the check digits of an element over the front of an output.
+pub(crate) fn write(m: Moduli, e: Element, out: &mut [u8])
+    requires { (m.a + m.b ≤ 12) × (m.a + 2 * m.b ≤ length out.old) }
+    ensures { out.new ≡ check_digits (moduli m.a m.b) e ++ drop (m.a + 2 * m.b) out.old }
 {
-    let mut at = start;
-    let mut i: usize = 0;
-    while i < 12 {
-        let d = e[i];
-        if i < a {
-            out[at] = d;
+    let mut at: usize = 0;
+    for (i, d) in e.iter().enumerate() {
+        if i < m.a {
+            out[at] = *d;
             at += 1;
-        } else if i - a < b {
-            out[at] = gray::first_half(d);
-            out[at + 1] = gray::second_half(d);
+        } else if i - m.a < m.b {
+            let [b, c] = gray::places(*d);
+            out[at] = b;
+            out[at + 1] = c;
             at += 2;
         }
-        i += 1;
-    }
-}
-
-// Copies a message or a word to the front of an output.
-pub(crate) fn copy(message: &[u8], out: &mut [u8])
-    requires { length message.now ≤ length out.old }
-    ensures { out.new ≡ message.now ++ drop (length message.now) out.old }
-{
-    let mut i: usize = 0;
-    while i < message.len() {
-        out[i] = message[i];
-        i += 1;
     }
 }

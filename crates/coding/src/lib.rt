@@ -1,4 +1,4 @@
-// One pass over a word: its syndrome, and the lowest place of a byte above 1; the codeword of a message, by
+// One pass over a word: its syndrome, or the lowest place of a byte above 1; the codeword of a message, by
 // the same pass; and one place flipped, in a copy or where it stands. The first s places may be left out (request C-17): what is
 // read is said of the word filled with s zeros, but no such word is made. Every input is answered: nothing is
 // done where t and r are not admitted, s is not allowed, a word or a message is not of its length, or an
@@ -8,132 +8,97 @@
 
 mod bits;
 mod check;
-mod flips;
-mod part;
+mod filled;
 mod weights;
 
-ghost use Rattle.std.specs.Prelude.{◌≡◌, true, ◌-◌, ◌≤◌, eqb, length};
+ghost use Rattle.std.specs.Prelude.{◌≡◌, true, ◌-◌, ◌≤◌, eqb, length, MatchOption};
 ghost use Rattle.layout_theory.specs.Parameters.{places_of, message_of, moduli_for};
 ghost use Rattle.words_theory.specs.Words as words;
-ghost use Rattle.words_theory.specs.Calls.{bad_from, written, flip_for};
+ghost use Rattle.words_theory.specs.Calls.{bad_from, if_bits, written, flip_for};
 ghost use Rattle.shortened_theory.specs.Code.{shortened_syndrome, shortened_encode};
 ghost use Rattle.shortened_theory.specs.Calls.{Fits, fits_word, scanned_for, encode_bad_for, shortened_encode_for};
-ghost use Rattle.loops_theory.specs.Passing.{BitsIn, Tells};
+ghost use Rattle.loops_theory.specs.Passing.{BitsIn, BadIn};
 
-use part::Part;
-pub use shortened_theory::Scanned;
+use group::{Element, Moduli};
+use parameters::Code;
 
-// The pass over a received word: the lowest place of a byte above 1, or 0 and the syndrome.
-pub fn scan(t: u32, r: u32, s: u32, word: &[u8]) -> Scanned
-    ensures { result ≡ scanned_for t r s word.now }
+// The pass over a received word: its syndrome, or the lowest place of a byte above 1.
+pub fn scan(code: Code, word: &[u8]) -> Result<Element, u32>
+    ensures { result ≡ scanned_for code.t code.r code.s word.now }
 {
-    if parameters::fits_word(t, r, s, word.len()) {
-        return scan_fit(t, r, s as usize, word);
+    if code.fits_word(word.len()) {
+        return scan_fit(code, word);
     }
-    Scanned {
-        bad: 0,
-        syndrome: group::zero(0, 0),
-    }
+    Ok(Moduli { a: 0, b: 0 }.zero())
 }
 
 // The same for a word of its length: its front is tested, and then the pass is made.
-fn scan_fit(t: u32, r: u32, d: usize, word: &[u8]) -> Scanned
-    requires { fits_word t r d (length word.now) ≡ true }
-    ensures { result ≡ scanned_for t r d word.now }
+fn scan_fit(code: Code, word: &[u8]) -> Result<Element, u32>
+    requires { fits_word code.t code.r code.s (length word.now) ≡ true }
+    ensures { result ≡ scanned_for code.t code.r code.s word.now }
 {
-    if bits::front(word) {
-        let head = bits::head(word.len());
-        let p = pass(t, r, d, word, head);
-        let good = p.good;
-        if good {
-            let sum = p.sum;
-            return Scanned {
-                bad: 0,
-                syndrome: sum,
-            };
-        }
-        return Scanned {
-            bad: bits::first_bad(word, head) as u32,
-            syndrome: group::zero(0, 0),
-        };
-    }
-    Scanned {
-        bad: bits::first_bad(word, 0) as u32,
-        syndrome: group::zero(0, 0),
+    let Some(seen) = bits::front(word) else {
+        return Err(bits::first_bad(word, 0) as u32);
+    };
+    match pass(code, word, seen) {
+        Some(sum) => Ok(sum),
+        None => Err(bits::first_bad(word, seen) as u32),
     }
 }
 
-// The check's part, which needs no array, and the message's. The first `head` bytes were tested before.
-fn pass(t: u32, r: u32, d: usize, word: &[u8], head: usize) -> Part
-    requires { Fits t r d (places_of t) (length word.now) × (head ≤ length word.now) × BitsIn word.now 0 head }
-    ensures told { Tells result.good word.now 0 (length word.now) }
-    ensures sum { result.good ≡ true → result.sum ≡ shortened_syndrome (moduli_for t r) d word.now }
+// The check's part, which needs no array, and the message's; nothing where a byte is above 1. The first `seen`
+// bytes were tested before.
+fn pass(code: Code, word: &[u8], seen: usize) -> Option<Element>
+    requires { Fits code.t code.r code.s (places_of code.t) (length word.now) × (seen ≤ length word.now) × BitsIn word.now 0 seen }
+    ensures { MatchOption result (BadIn word.now 0 (length word.now)) (λ x. BitsIn word.now 0 (length word.now) × (x ≡ shortened_syndrome (moduli_for code.t code.r) code.s word.now)) }
 {
-    let h = parameters::shape_of(t, r);
-    let a = h.a;
-    let b = h.b;
-    let places = h.places as usize;
-    let binary = h.binary as usize;
+    let h = code.shape();
+    let m = Moduli { a: h.a, b: h.b };
+    let d = code.s as usize;
     let message = h.message as usize;
-    let y = check::read(a, b, word, message - d);
-    let good = y.good;
-    if good {
-        let x = weights::message_sum(a, b, places + 1, binary - a, d, word, d + head);
-        let front = x.sum;
-        let back = y.sum;
-        return Part {
-            good: x.good,
-            sum: group::add(a, b, front, back),
-        };
-    }
-    y
+    let back = check::read(m, &word[message - d..])?;
+    let front = weights::message_sum(h, d, word, d + seen)?;
+    Some(m.add(front, back))
 }
 
-// Encodes a message into the front of an output. Answers 0, or the lowest place of a byte above 1, and then
-// nothing is written.
-pub fn encode(t: u32, r: u32, s: u32, message: &[u8], out: &mut [u8]) -> u32
-    ensures bad { result ≡ encode_bad_for t r s message.now out.old }
-    ensures bytes { out.new ≡ shortened_encode_for t r s message.now out.old }
+// Encodes a message into the front of an output. Where a byte is above 1 its lowest place is told, and nothing is
+// written.
+pub fn encode(code: Code, message: &[u8], out: &mut [u8]) -> Result<(), u32>
+    ensures bad { result ≡ if_bits (encode_bad_for code.t code.r code.s message.now out.old) tt }
+    ensures bytes { out.new ≡ shortened_encode_for code.t code.r code.s message.now out.old }
 {
-    if parameters::fits_message(t, r, s, message.len()) {
-        if parameters::has_room(t, r, s, out.len()) {
-            return encode_fit(t, r, s as usize, message, out);
-        }
+    if code.fits_message(message.len()) && code.has_room(out.len()) {
+        return encode_fit(code, message, out);
     }
-    0
+    Ok(())
 }
 
 // The same for a message of its length and an output with room for a word.
-fn encode_fit(t: u32, r: u32, d: usize, message: &[u8], out: &mut [u8]) -> u32
-    requires { Fits t r d (message_of t) (length message.now) × (places_of t - d ≤ length out.old) }
-    ensures bad { result ≡ bad_from 1 message.now }
-    ensures bytes { out.new ≡ written (eqb (bad_from 1 message.now) 0) (places_of t - d) (shortened_encode (moduli_for t r) d message.now) out.old }
+fn encode_fit(code: Code, message: &[u8], out: &mut [u8]) -> Result<(), u32>
+    requires { Fits code.t code.r code.s (message_of code.t) (length message.now) × (places_of code.t - code.s ≤ length out.old) }
+    ensures bad { result ≡ if_bits (bad_from 1 message.now) tt }
+    ensures bytes { out.new ≡ written (eqb (bad_from 1 message.now) 0) (places_of code.t - code.s) (shortened_encode (moduli_for code.t code.r) code.s message.now) out.old }
 {
-    let h = parameters::shape_of(t, r);
-    let a = h.a;
-    let b = h.b;
-    let places = h.places as usize;
-    let binary = h.binary as usize;
-    let x = weights::message_sum(a, b, places + 1, binary - a, d, message, 0);
-    let good = x.good;
-    if good {
-        let sum = x.sum;
-        let y = group::neg(a, b, sum);
-        check::copy(message, out);
-        check::write(a, b, y, out, message.len());
-        return 0;
-    }
-    bits::first_bad(message, 0) as u32
+    let h = code.shape();
+    let m = Moduli { a: h.a, b: h.b };
+    let d = code.s as usize;
+    let Some(sum) = weights::message_sum(h, d, message, 0) else {
+        return Err(bits::first_bad(message, 0) as u32);
+    };
+    let y = m.neg(sum);
+    out[..message.len()].copy_from_slice(message);
+    check::write(m, y, &mut out[message.len()..]);
+    Ok(())
 }
 
-// The lowest place of a byte above 1, or 0.
-pub fn bad_place(word: &[u8]) -> usize
-    ensures { result ≡ bad_from 1 word.now }
+// Whether every byte is 0 or 1, or else the lowest place of one above 1.
+pub fn all_bits(word: &[u8]) -> Result<(), usize>
+    ensures { result ≡ if_bits (bad_from 1 word.now) tt }
 {
-    if bits::bits(word, 0, word.len()) {
-        return 0;
+    if bits::bits(word) {
+        return Ok(());
     }
-    bits::first_bad(word, 0)
+    Err(bits::first_bad(word, 0))
 }
 
 // Flips one place of a word where it stands; place 0 and places beyond the word are none.
@@ -145,7 +110,7 @@ pub fn flip_in_place(place: u32, word: &mut [u8])
     }
     let i = (place - 1) as usize;
     if i < word.len() {
-        word[i] = flips::other(word[i]);
+        word[i] = 1u8.saturating_sub(word[i]);
     }
 }
 
@@ -157,6 +122,6 @@ pub fn flip(word: &[u8], place: u32, out: &mut [u8])
     if out.len() < word.len() {
         return;
     }
-    check::copy(word, out);
-    flips::flip_at(word, place, out);
+    out[..word.len()].copy_from_slice(word);
+    flip_in_place(place, &mut out[..word.len()]);
 }

@@ -3,6 +3,7 @@ use mathlib.Core.Path.{◌≡◌, refl, sym, ap, ap₂, subst, ◌∙◌}
 use mathlib.Core.List.{List, [], ◌∷◌, ◌++◌}
 use Prim.Native.Nat.{ℕ, zero, suc, ◌+◌, ◌-◌, ◌*◌, ◌/◌, ◌%◌, ◌^◌, ◌<◌, ◌≤◌}
 use native.Mathlib.Nat.{pow-succ', pow-le-pow_right}
+use native.Mathlib.Decide.{dec_lt}
 use native.Mathlib.Omega.{arith}
 use lib.ListN.{length, take, drop, set, length-set, length-append}
 use lib.Pow.{pow_mono}
@@ -79,6 +80,21 @@ holds-within t a b k l h e m =
     let few : a + 2 * b ≤ widest = omega arith in
     let s = size-within a b few t h in
     record { few = few; enough = omega arith; most = m }
+
+-- an array that holds a weight for each element has 2^(a + 2 b), and one with so many holds them
+pub holds-power : (a b k : ℕ) → Holds a b k → 2 ^ (a + 2 * b) ≤ k
+holds-power a b k h =
+    let few = h.few in
+    let enough = h.enough in
+    let e : size (moduli a b) ≡ 2 ^ (a + 2 * b) = sym (size-in-use a b) ∙ size-level a b few b (omega arith) in
+    omega arith
+
+pub holds-room : (a b k : ℕ) → 2 ^ (a + 2 * b) ≤ k → k ≤ room → Holds a b k
+holds-room a b k e m = holds-within (a + 2 * b) a b k (go (dec_lt widest (a + 2 * b))) (omega arith) e m
+  where
+    go : Dec (widest < a + 2 * b) → a + 2 * b ≤ widest
+    go (yes l) = let p = pow_mono {i = suc widest} {j = a + 2 * b} l in absurd (omega arith)
+    go (no l) = omega arith
 
 -- ---- the blocks of one level, each number twice
 module _ (ms : List Modulus) where

@@ -1,14 +1,16 @@
 -- For `pairs`, `both` and `weighted`: the first level, and the two sums put together. Assumes nothing.
 use mathlib.Core.Path.{◌≡◌, refl, sym, ap, ap₂, subst, ◌∙◌}
-use mathlib.Core.Bool.{true, false}
+use mathlib.Core.Bool.{Bool, true, false, ◌&&◌}
 use mathlib.Core.List.{List, [], ◌∷◌, ◌++◌}
 use Prim.Native.Nat.{ℕ, zero, suc, ◌+◌, ◌-◌, ◌*◌, ◌/◌, ◌%◌, ◌^◌, ◌<◌, ◌≤◌}
-use native.Mathlib.Decide.{dec_lt}
+use native.Mathlib.Decide.{dec_lt, dec_le}
 use native.Mathlib.Omega.{arith}
 use borrow.Author.Tests.{le-leb, lt-leb}
 use lib.Dec.{leb}
+use lib.Pow.{pow_mono, pow-lt}
 use lib.ListN.{length, take, drop, set, length-append, take-append-drop}
 use lib.Seq.{paste, take-add, append_snoc, length-take-le}
+use Rattle.std.specs.Cmp.Derive.{both_true}
 use Rattle.group_theory.specs.Group.{Modulus, four, moduli, zeros, sum, size}
 use Rattle.group_theory.specs.Weights.{weigh_on, shifted, total, Below}
 use Rattle.group_theory.proofs.Laws.{sum_comm}
@@ -21,11 +23,11 @@ use Rattle.blocks_theory.proofs.Blocks.{next, even-blocks}
 use Rattle.blocks_theory.proofs.Levels.{below-plus, below-low, below-even, level-next, size-next}
 use Rattle.blocks_theory.proofs.Members.{plus-all, even-all}
 use Rattle.blocks_theory.proofs.Splits.{even_power}
-use Rattle.folds_theory.specs.Folds.{widest, stretch, twice, both, weight_order, weighted_for, first_plus, first_tops, stride, Doubling, Halved}
+use Rattle.folds_theory.specs.Folds.{widest, room, Holds, stretch, twice, both, weight_order, weighted_for, first_plus, first_tops, stride, Doubling, Halved}
 use Rattle.folds_theory.proofs.Twice.{below-twice, even-two}
 use Rattle.folds_theory.proofs.Offs.{four-lengths, first_off, length-first-plus}
 use Rattle.folds_theory.proofs.Halving.{last-two, last-four, stride-two, stride-four}
-use Rattle.folds_theory.proofs.Levelling.{on-take, twelve, size-level, size_fits, blocks_at, plus-twice, low_twice, front_of, stretch-behind, drop-written}
+use Rattle.folds_theory.proofs.Levelling.{on-take, holds-within, holds-power, holds-room, twelve, size-level, size_fits, blocks_at, plus-twice, low_twice, front_of, stretch-behind, drop-written}
 
 zeros-drop : (i : ℕ) (ms : List Modulus) → zeros (drop i ms) ≡ drop i (zeros ms)
 unfolding zeros
@@ -196,24 +198,54 @@ singles-only a b n e f z p q v x none l o g =
     nothing [] h = refl
     nothing (y ∷ t) h = absurd (omega arith)
 
--- the test of the room in the code's words
-pub half-leb : (a b t : ℕ) → a ≤ t → leb b ((t - a) / 2) ≡ leb (a + 2 * b) t
-half-leb a b t h = go (dec_lt ((t - a) / 2) b)
-  where
-    go : Dec ((t - a) / 2 < b) → leb b ((t - a) / 2) ≡ leb (a + 2 * b) t
-    go (yes l) = lt-leb b ((t - a) / 2) l ∙ sym (lt-leb (a + 2 * b) t (omega arith))
-    go (no l) = le-leb b ((t - a) / 2) (omega arith) ∙ sym (le-leb (a + 2 * b) t (omega arith))
-
 -- ---- what is answered, with room and without
-pub with-room : (t a b : ℕ) (v : List ℕ) → a + 2 * b ≤ t → weighted_for t a b v ≡ weigh_on (moduli a b) (weight_order (moduli a b)) v
-unfolding weighted_for
-with-room t a b v h =
-    ap (λ k. elim k as (λ _. List ℕ) [ true ↦ weigh_on (moduli a b) (weight_order (moduli a b)) v | false ↦ zeros (moduli a b) ]) (le-leb (a + 2 * b) t h)
+-- the test of the room, by what is answered either way
+abbrev chosen : ℕ → ℕ → List ℕ → Bool → List ℕ
+chosen a b v t = elim t as (λ _. List ℕ) [ true ↦ weigh_on (moduli a b) (weight_order (moduli a b)) v | false ↦ zeros (moduli a b) ]
 
-pub without-room : (t a b : ℕ) (v : List ℕ) → t < a + 2 * b → weighted_for t a b v ≡ zeros (moduli a b)
+pub with-room : (n a b : ℕ) (v : List ℕ) → Holds a b n → weighted_for n a b v ≡ weigh_on (moduli a b) (weight_order (moduli a b)) v
 unfolding weighted_for
-without-room t a b v h =
-    ap (λ k. elim k as (λ _. List ℕ) [ true ↦ weigh_on (moduli a b) (weight_order (moduli a b)) v | false ↦ zeros (moduli a b) ]) (lt-leb (a + 2 * b) t h)
+with-room n a b v h =
+    let e : 2 ^ (a + 2 * b) ≤ n = holds-power a b n h in
+    let m = h.most in
+    ap (chosen a b v) (both_true (le-leb (2 ^ (a + 2 * b)) n e) (le-leb n room m))
+
+pub without-room : (n a b : ℕ) (v : List ℕ) → (Holds a b n → ⊥) → weighted_for n a b v ≡ zeros (moduli a b)
+unfolding weighted_for
+without-room n a b v h = ap (chosen a b v) (go (dec_le (2 ^ (a + 2 * b)) n) (dec_le n room))
+  where
+    go : Dec (2 ^ (a + 2 * b) ≤ n) → Dec (n ≤ room) → (leb (2 ^ (a + 2 * b)) n && leb n room) ≡ false
+    go (no e) m = ap (λ t. t && leb n room) (lt-leb (2 ^ (a + 2 * b)) n (omega arith))
+    go (yes e) (no m) = ap₂ ◌&&◌ (le-leb (2 ^ (a + 2 * b)) n e) (lt-leb n room (omega arith))
+    go (yes e) (yes m) = absurd (h (holds-room a b n e m))
+
+-- The three lengths in use: 2^t weights have room for the codes up to t, and for no others.
+module _ (a b : ℕ) (v : List ℕ) where
+  abbrev up-to : ℕ → List ℕ
+  up-to t = chosen a b v (leb (a + 2 * b) t)
+
+  at-length : (t : ℕ) → t ≤ widest → weighted_for (2 ^ t) a b v ≡ up-to t
+  at-length t h = go (dec_le (a + 2 * b) t)
+    where
+      go : Dec (a + 2 * b ≤ t) → weighted_for (2 ^ t) a b v ≡ up-to t
+      go (yes k) =
+          with-room (2 ^ t) a b v (holds-within t a b (2 ^ t) h k (omega arith) (pow_mono {i = t} {j = widest} h))
+          ∙ ap (chosen a b v) (sym (le-leb (a + 2 * b) t k))
+      go (no k) =
+          without-room (2 ^ t) a b v (λ H. absurd (beyond (holds-power a b (2 ^ t) H)))
+          ∙ ap (chosen a b v) (sym (lt-leb (a + 2 * b) t (omega arith)))
+        where
+          beyond : 2 ^ (a + 2 * b) ≤ 2 ^ t → ⊥
+          beyond l = let p = pow-lt {i = t} {j = a + 2 * b} (omega arith) in omega arith
+
+  pub at-64 : weighted_for 64 a b v ≡ up-to 6
+  at-64 = at-length 6 (omega arith)
+
+  pub at-1024 : weighted_for 1024 a b v ≡ up-to 10
+  at-1024 = at-length 10 (omega arith)
+
+  pub at-4096 : weighted_for 4096 a b v ≡ up-to 12
+  at-4096 = at-length 12 (omega arith)
 
 -- there is a weight for each element
 pub order-fits : (a b : ℕ) → a + 2 * b ≤ widest → length (weight_order (moduli a b)) ≤ size (moduli a b)

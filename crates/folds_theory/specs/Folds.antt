@@ -1,5 +1,5 @@
 -- Weights, one for each element, in an order in which their sum can be folded without a table. Assumes nothing.
-use Rattle.std.specs.Prelude.{◌≡◌, List, [], ◌∷◌, ◌++◌, true, false, ℕ, zero, suc, ◌+◌, ◌*◌, ◌^◌, ◌≤◌, ◌<◌, leb, ltb, length, take, drop}
+use Rattle.std.specs.Prelude.{◌≡◌, List, [], ◌∷◌, ◌++◌, true, false, ◌&&◌, ℕ, zero, suc, ◌+◌, ◌*◌, ◌^◌, ◌≤◌, ◌<◌, leb, ltb, length, take, drop}
 use Rattle.group_theory.specs.Group.{Modulus, moduli, zeros, size}
 use Rattle.group_theory.specs.Weights.{weigh_on, shifted, added, Below}
 use Rattle.layout_theory.specs.Parameters.{longest}
@@ -27,11 +27,11 @@ twice (x ∷ xs) = x ∷ x ∷ twice xs
 unfoldable pub weight_order : List Modulus → List ℕ
 weight_order ms = twice (plus ms) ++ even ms
 
--- what `weighted6`, `weighted10` and `weighted12` answer, with room for codes up to t: the sum of the elements in this order, each times its
--- weight; zero where there is no room for so many
+-- what `weighted` answers for n weights: the sum of the elements in this order, each times its weight; zero where there is not one for
+-- each element, or where there are more than there is room for
 unfoldable pub weighted_for : ℕ → ℕ → ℕ → List ℕ → List ℕ
-weighted_for t a b v =
-    elim (leb (a + 2 * b) t) as (λ _. List ℕ) [
+weighted_for n a b v =
+    elim (leb (2 ^ (a + 2 * b)) n && leb n room) as (λ _. List ℕ) [
       | true ↦ weigh_on (moduli a b) (weight_order (moduli a b)) v
       | false ↦ zeros (moduli a b)
     ]

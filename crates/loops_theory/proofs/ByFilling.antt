@@ -61,6 +61,9 @@ fault-at-zero t r s e w h = go (fits_word t r s (length w))
     go false = refl
 
 -- ---- the lowest place of a byte above 1 as an answer
+pub told-none : {A : Type 0} (x : A) (p : ℕ) → p ≡ 0 → Ok x ≡ if_bits p x
+told-none x p e = rw e refl
+
 pub told-bad : {A : Type 0} (b : ℕ) (x : A) (p : ℕ) → b ≡ p → p ≢ 0 → Err b ≡ if_bits p x
 told-bad b x zero e n = absurd (n refl)
 told-bad b x (suc p) e n = ap Err e

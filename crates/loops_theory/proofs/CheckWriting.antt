@@ -1,4 +1,4 @@
--- For the loop that writes check digits from an index of an output on. Assumes nothing.
+-- For the loop that writes check digits over the front of an output. Assumes nothing.
 use mathlib.Core.Path.{◌≡◌, refl, sym, ap, ap₂, ◌∙◌}
 use mathlib.Core.List.{List, [], ◌∷◌, ◌++◌, append-nil, append_assoc}
 use Prim.Native.Nat.{ℕ, zero, suc, ◌+◌, ◌-◌, ◌*◌, ◌<◌, ◌≤◌}
@@ -24,6 +24,13 @@ gray-halves (suc zero) w = refl
 gray-halves (suc (suc zero)) w = refl
 gray-halves (suc (suc (suc d))) w = refl
 
+-- the same, by the indices of its two places
+gray-places : (d : ℕ) (w : List ℕ) → gray d w ≡ get_or (gray d []) 0 0 ∷ get_or (gray d []) 1 0 ∷ w
+gray-places zero w = refl
+gray-places (suc zero) w = refl
+gray-places (suc (suc zero)) w = refl
+gray-places (suc (suc (suc d))) w = refl
+
 -- what one more component adds to the digits
 digits-two : (ms : List Modulus) (e : List ℕ) (i : ℕ) → i < length ms → i < length e → get_or ms i one ≡ two
     → check_digits (drop i ms) (drop i e) ≡ get_or e i 0 ∷ check_digits (drop (suc i) ms) (drop (suc i) e)
@@ -41,18 +48,18 @@ unfolding check_digits
 digits-one ms e i h k q = rw (drop-cons ms i one, drop-cons e i 0, q)
 
 -- the digits of the first i components are written
-pub record DigitsWritten (a b : ℕ) (e old : List ℕ) (start : ℕ) (out : List ℕ) (at i : ℕ) : Type 0 where
+pub record DigitsWritten (a b : ℕ) (e old out : List ℕ) (at i : ℕ) : Type 0 where
   pub top : i ≤ 12
   pub wide : length out ≡ length old
-  pub done : take at out ++ check_digits (drop i (moduli a b)) (drop i e) ≡ take start old ++ check_digits (moduli a b) e
+  pub done : take at out ++ check_digits (drop i (moduli a b)) (drop i e) ≡ check_digits (moduli a b) e
   pub kept : drop at out ≡ drop at old
-  pub place : Place a b start at i
+  pub place : Place a b 0 at i
 
-module _ (a b : ℕ) (e old : List ℕ) (start : ℕ) (n : length e ≡ 12) (h : a + b ≤ 12) (room : start + (a + 2 * b) ≤ length old) where
-  pub digits-start : DigitsWritten a b e old start old start 0
+module _ (a b : ℕ) (e old : List ℕ) (n : length e ≡ 12) (h : a + b ≤ 12) (room : a + 2 * b ≤ length old) where
+  pub digits-start : DigitsWritten a b e old old 0 0
   digits-start = record { top = omega arith; wide = refl; done = refl; kept = refl; place = omega arith }
 
-  module _ (out : List ℕ) (at i : ℕ) (v : DigitsWritten a b e old start out at i) (k : i < 12) where
+  module _ (out : List ℕ) (at i : ℕ) (v : DigitsWritten a b e old out at i) (k : i < 12) where
     -- the places of the next digit are there
     pub room-two : i < a → at < length out
     room-two l = let p = v.place in let w = v.wide in omega arith
@@ -60,7 +67,7 @@ module _ (a b : ℕ) (e old : List ℕ) (start : ℕ) (n : length e ≡ 12) (h :
     pub room-four : a ≤ i → i - a < b → at + 1 < length out
     room-four l m = let p = v.place in let w = v.wide in omega arith
 
-    pub write_two : i < a → DigitsWritten a b e old start (set out at (get_or e i 0)) (at + 1) (i + 1)
+    pub write_two : i < a → DigitsWritten a b e old (set out at (get_or e i 0)) (at + 1) (i + 1)
     write_two l =
         let p = v.place in
         let w = v.wide in
@@ -77,19 +84,19 @@ module _ (a b : ℕ) (e old : List ℕ) (start : ℕ) (n : length e ≡ 12) (h :
         }
 
     pub write-four : a ≤ i → i - a < b
-        → DigitsWritten a b e old start (set (set out at (hd (gray (get_or e i 0) []))) (at + 1) (hd (tl (gray (get_or e i 0) [])))) (at + 2) (i + 1)
+        → DigitsWritten a b e old (set (set out at (get_or (gray (get_or e i 0) []) 0 0)) (at + 1) (get_or (gray (get_or e i 0) []) 1 0)) (at + 2) (i + 1)
     write-four l q =
         let p = v.place in
         let w = v.wide in
         let m = length-moduli a b in
         let r = room-four l q in
-        let x = hd (gray (get_or e i 0) []) in
-        let y = hd (tl (gray (get_or e i 0) [])) in
+        let x = get_or (gray (get_or e i 0) []) 0 0 in
+        let y = get_or (gray (get_or e i 0) []) 1 0 in
         let out' = set out at x in
         let g : length out' ≡ length out = length-set out at x in
         let R = check_digits (drop (suc i) (moduli a b)) (drop (suc i) e) in
         let d : check_digits (drop i (moduli a b)) (drop i e) ≡ x ∷ y ∷ R =
-        digits-four (moduli a b) e i (omega arith) (omega arith) (moduli-four a b i k l q) ∙ gray-halves (get_or e i 0) R in
+        digits-four (moduli a b) e i (omega arith) (omega arith) (moduli-four a b i k l q) ∙ gray-places (get_or e i 0) R in
         let two' : at + 2 ≡ suc (suc at) = omega arith in
         let t : take (suc (suc at)) (set out' (suc at) y) ≡ (take at out ++ (x ∷ [])) ++ (y ∷ []) =
         take-suc-set out' (suc at) y (omega arith) ∙ ap (λ (z : List ℕ). z ++ (y ∷ [])) (take-suc-set out at x (omega arith)) in
@@ -102,7 +109,7 @@ module _ (a b : ℕ) (e old : List ℕ) (start : ℕ) (n : length e ≡ 12) (h :
           place = omega arith;
         }
 
-    pub write-one : a ≤ i → b ≤ i - a → DigitsWritten a b e old start out at (i + 1)
+    pub write-one : a ≤ i → b ≤ i - a → DigitsWritten a b e old out at (i + 1)
     write-one l q =
         let p = v.place in
         let m = length-moduli a b in
@@ -115,14 +122,13 @@ module _ (a b : ℕ) (e old : List ℕ) (start : ℕ) (n : length e ≡ 12) (h :
           place = omega arith;
         }
 
-  pub digits-end : (out : List ℕ) (at i : ℕ) → DigitsWritten a b e old start out at i → 12 ≤ i
-      → out ≡ take start old ++ (check_digits (moduli a b) e ++ drop (start + (a + 2 * b)) old)
+  pub digits-end : (out : List ℕ) (at i : ℕ) → DigitsWritten a b e old out at i → 12 ≤ i
+      → out ≡ check_digits (moduli a b) e ++ drop (a + 2 * b) old
   unfolding check_digits
   digits-end out at i v k =
       let p = v.place in
-      let at' : at ≡ start + (a + 2 * b) = omega arith in
+      let at' : at ≡ a + 2 * b = omega arith in
       let none : drop i (moduli a b) ≡ [] = drop_of_length-le (moduli a b) {i = i} (omega (arith, length-moduli a b)) in
-      let f : take at out ++ [] ≡ take start old ++ check_digits (moduli a b) e = rw none at v.done in
+      let f : take at out ++ [] ≡ check_digits (moduli a b) e = rw none at v.done in
       sym (take-append-drop at out)
       ∙ ap₂ ◌++◌ (sym (append-nil (take at out)) ∙ f) (v.kept ∙ ap (λ (j : ℕ). drop j old) at')
-      ∙ append_assoc (take start old) (check_digits (moduli a b) e) (drop (start + (a + 2 * b)) old)

@@ -8,8 +8,8 @@ use native.Mathlib.Numerals.{add-one}
 use native.Mathlib.Omega.{arith}
 use borrow.Author.Tests.{le-leb, lt-leb}
 use lib.Dec.{eqb}
-use lib.ListN.{length, drop, get_or, set}
-use lib.Seq.{drop-append_seam, set-append_left, set_out}
+use lib.ListN.{length, take, drop, get_or, set}
+use lib.Seq.{take-append_seam, drop-append_seam, set_out}
 use Rattle.group_theory.specs.Group.{Modulus, Valid, moduli, zeros, negative}
 use Rattle.group_theory.specs.Sign.{all_zero}
 use Rattle.group_theory.proofs.Laws.{valid-negative, negative-negative, negative-zeros}
@@ -119,14 +119,6 @@ module _ (t r d : ℕ) (s : Shape) (k : Known t r s) (c : Cut s d) (w x : List �
       (q ∙ sym (ap₂ (λ (y z : ℕ). pick (eqb y z) (p - 1) i) (get_d_kept d w (p - 1) h) (get_d_kept d w i l)))
 
 -- ---- a word with one place flipped
--- a copy to the front keeps the bytes after it
-module _ (w old copied : List ℕ) (e : copied ≡ w ++ drop (length w) old) where
-  pub copied-after : drop (length w) copied ≡ drop (length w) old
-  copied-after = ap (drop (length w)) e ∙ drop-append_seam w (drop (length w) old)
-
-  pub copied-front : copied ≡ w ++ drop (length w) copied
-  copied-front = e ∙ ap (λ (l : List ℕ). w ++ l) (sym copied-after)
-
 flip-index : (p : ℕ) (w : List ℕ) → p ≢ 0 → set w (p - 1) (1 - get_or w (p - 1) 0) ≡ flip p w
 flip-index zero w n = absurd (n refl)
 flip-index (suc i) w n =
@@ -143,21 +135,14 @@ own-outside w p n h = sym (set_out w (p - 1) (1 - get_or w (p - 1) 0) h) ∙ fli
 pub own-inside : (w : List ℕ) (p : ℕ) → p ≢ 0 → (b : ℕ) → b ≡ 1 - get_or w (p - 1) 0 → set w (p - 1) b ≡ flip p w
 own-inside w p n b f = ap (set w (p - 1)) f ∙ flip-index p w n
 
--- and at the front of an output
-module _ (w old : List ℕ) (p : ℕ) (e : old ≡ w ++ drop (length w) old) where
-  pub flip-nothing : p ≡ 0 → old ≡ flip p w ++ drop (length w) old
-  flip-nothing z = e ∙ ap (λ (v : List ℕ). v ++ drop (length w) old) (own-nothing w p z)
-
-  pub flip-outside : p ≢ 0 → length w ≤ p - 1 → old ≡ flip p w ++ drop (length w) old
-  flip-outside n h =
-      e ∙ ap (λ (v : List ℕ). v ++ drop (length w) old) (own-outside w p n h)
-
-  pub flip-inside : p ≢ 0 → p - 1 < length w → (b : ℕ) → b ≡ 1 - get_or w (p - 1) 0
-      → set old (p - 1) b ≡ flip p w ++ drop (length w) old
-  flip-inside n h b f =
-      ap (λ (o : List ℕ). set o (p - 1) b) e
-      ∙ set-append_left w (drop (length w) old) (p - 1) b h
-      ∙ ap (λ (v : List ℕ). v ++ drop (length w) old) (own-inside w p n b f)
+-- and in a copy at the front of an output
+pub flip-copied : (w old x y : List ℕ) (p : ℕ) → x ≡ w → y ≡ flip p (take (length w) (x ++ drop (length w) old))
+    → y ++ drop (length w) (x ++ drop (length w) old) ≡ flip p w ++ drop (length w) old
+flip-copied w old x y p e f =
+    let n = length w in
+    let a : take n (x ++ drop n old) ≡ w = ap (λ (r : List ℕ). take n (r ++ drop n old)) e ∙ take-append_seam w (drop n old) in
+    let b : drop n (x ++ drop n old) ≡ drop n old = ap (λ (r : List ℕ). drop n (r ++ drop n old)) e ∙ drop-append_seam w (drop n old) in
+    ap₂ ◌++◌ (f ∙ ap (flip p) a) b
 
 pub flip-narrow : (w old : List ℕ) (p : ℕ) → length old < length w → old ≡ flip_for w p old
 unfolding flip_for

@@ -7,6 +7,8 @@ pub mod Spreads
 pub mod Segments
 pub mod Laying
 pub mod Rows
+pub mod Parts
+pub mod Singles
 pub mod Passing
 pub mod Checking
 pub mod CheckWriting

@@ -3,13 +3,15 @@ use mathlib.Core.Path.{◌≡◌, refl, sym, ap, ap₂, subst, ◌∙◌}
 use mathlib.Core.Logic.{◌≢◌, ◌⊎◌, inl, inr, ⊎_elim}
 use mathlib.Core.Bool.{Bool, true, false, not}
 use mathlib.Core.List.{List, [], ◌∷◌, ◌++◌}
-use Prim.Native.Nat.{ℕ, zero, suc, ◌+◌, ◌-◌, ◌*◌, ◌/◌, ◌%◌, ◌<◌, ◌≤◌}
+use Prim.Native.Nat.{ℕ, zero, suc, ◌+◌, ◌-◌, ◌*◌, ◌/◌, ◌%◌, max, ◌<◌, ◌≤◌}
 use native.Mathlib.Decide.{dec_lt}
 use native.Mathlib.Omega.{arith}
 use borrow.Author.Tests.{lt-ltb, le-ltb, le-leb, lt-leb}
 use lib.Dec.{leb, ltb}
+use Rattle.std.specs.Prelude.{Option, MatchOption}
+use Rattle.std.specs.Bool.{then_some}
 use lib.ListN.{length, take, drop, get_or, length-map, length-append, length-drop, take-append-drop, get_or-eq_default}
-use lib.Seq.{length-take-le, take_all, take-take, take-add, drop_at, take-append-add, get_or-take, get_or-append-add}
+use lib.Seq.{length-take-le, take_all, take-take, take-add, drop_at, take-append-add, get_or-take, get_or-drop, get_or-append-add}
 use Rattle.group_theory.specs.Group.{Modulus, moduli, hd, tl, element}
 use Rattle.layout_theory.specs.Choice.{pick}
 use Rattle.blocks_theory.specs.Blocks.{select, skips, others, even, level, plus_to, even_to}
@@ -18,9 +20,9 @@ use Rattle.blocks_theory.proofs.Members.{singles-members, even-all}
 use Rattle.folds_theory.specs.Folds.{Holds}
 use Rattle.words_theory.specs.Words.{Bits}
 use Rattle.words_theory.specs.Calls.{bad_from}
-use Rattle.words_theory.proofs.Bad.{bad-step, bits_none, none-bits}
+use Rattle.words_theory.proofs.Bad.{bad-step, bad-found, bad-end, bits_none, none-bits}
 use Rattle.shortened_theory.specs.Code.{fill}
-use Rattle.loops_theory.specs.Passing.{BitsIn, BadIn, Says, Tells, Highest, head_of}
+use Rattle.loops_theory.specs.Passing.{BitsIn, BadIn, Says, Tells, Highest}
 use Rattle.shortened_theory.specs.Allowed.{EndsWhole}
 use Rattle.loops_theory.specs.Spread.{message_in, spread, HoldsMessage}
 use Rattle.loops_theory.proofs.Cuts.{get_or-left, get_or-fill, get_d_kept}
@@ -28,12 +30,12 @@ use Rattle.loops_theory.proofs.Spreads.{free, spread-yes, spread-no, length-spre
 use Rattle.loops_theory.proofs.Laying.{hd-get_or, get_or-tl, Pairing, SinglesRoom, shares}
 
 -- ---- the highest byte
-pub larger-is : (a b x : ℕ) → x ≡ pick (ltb a b) b a → (a ≤ x) × (b ≤ x) × ((x ≡ a) ⊎ (x ≡ b))
-larger-is a b x e = go (dec_lt a b)
+larger-of : (a b : ℕ) → (max a b ≡ a) ⊎ (max a b ≡ b)
+larger-of a b = go (dec_lt a b)
   where
-    go : Dec (a < b) → (a ≤ x) × (b ≤ x) × ((x ≡ a) ⊎ (x ≡ b))
-    go (yes h) = let f : x ≡ b = e ∙ ap (λ (t : Bool). pick t b a) (lt-ltb a b h) in (omega arith, omega arith, inr f)
-    go (no h) = let f : x ≡ a = e ∙ ap (λ (t : Bool). pick t b a) (le-ltb a b (omega arith)) in (omega arith, omega arith, inl f)
+    go : Dec (a < b) → (max a b ≡ a) ⊎ (max a b ≡ b)
+    go (yes h) = inr (omega arith)
+    go (no h) = inl (omega arith)
 
 module _ (w : List ℕ) where
   pub wider : {s e s' e' : ℕ} → s' ≤ s → e ≤ e' → BadIn w s e → BadIn w s' e'
@@ -57,16 +59,18 @@ module _ (w : List ℕ) where
       same j e = rw e (omega arith)
 
   -- of two stretches that meet or overlap
-  pub highest-join : (s l m e x y z : ℕ) → Highest w s m x → Highest w l e y → s ≤ l → l ≤ m → m ≤ e → z ≡ pick (ltb x y) y x → Highest w s e z
+  pub highest-join : (s l m e x y z : ℕ) → Highest w s m x → Highest w l e y → s ≤ l → l ≤ m → m ≤ e → z ≡ max x y → Highest w s e z
   highest-join s l m e x y z f g a b c d =
-      let k = larger-is x y z d in
-      record { most = λ i h j. below i h j (dec_lt i m) k.0 k.1; some = λ h. ⊎_elim (λ q. wider (omega arith) c (f.some (omega arith))) (λ q. wider a (omega arith) (g.some (omega arith))) k.2 }
+      record {
+        most = λ i h j. below i h j (dec_lt i m);
+        some = λ h. ⊎_elim (λ q. wider (omega arith) c (f.some (omega arith))) (λ q. wider a (omega arith) (g.some (omega arith))) (larger-of x y);
+      }
     where
-      below : (i : ℕ) → s ≤ i → i < e → Dec (i < m) → x ≤ z → y ≤ z → get_or w i 0 ≤ z
-      below i h j (yes o) p q = let u = f.most i h o in omega arith
-      below i h j (no o) p q = let u = g.most i (omega arith) j in omega arith
+      below : (i : ℕ) → s ≤ i → i < e → Dec (i < m) → get_or w i 0 ≤ z
+      below i h j (yes o) = let u = f.most i h o in omega arith
+      below i h j (no o) = let u = g.most i (omega arith) j in omega arith
 
-  pub highest-step : (s e x z : ℕ) → s ≤ e → Highest w s e x → z ≡ pick (ltb x (get_or w e 0)) (get_or w e 0) x → Highest w s (e + 1) z
+  pub highest-step : (s e x z : ℕ) → s ≤ e → Highest w s e x → z ≡ max x (get_or w e 0) → Highest w s (e + 1) z
   highest-step s e x z h f d = highest-join s e e (e + 1) x (get_or w e 0) z f (highest-one e) h (omega arith) (omega arith) d
 
   -- it tells whether all are 0 or 1
@@ -198,47 +202,32 @@ spread-bad ms (x ∷ xs) w i h = go (skips ms x) refl (λ z k. spread-bad ms xs 
     go true e g = there w (spread false ms xs w) i (subst (λ (v : List ℕ). 1 < get_or v i 0) (spread-yes false ms x xs w e) h) (g w)
     go false e g = here w (spread false ms xs (tl w)) i (subst (λ (v : List ℕ). 1 < get_or v i 0) (spread-no false ms x xs w e) h) (g (tl w))
 
--- the weights from `start` on are those of the singles
-module _ (ms : List Modulus) (xs w o v : List ℕ) (start m : ℕ) (e : take (start + m) v ≡ take start o ++ spread false ms xs w) (l : start ≤ length o) where
-  weight-in : (i : ℕ) → start + i < start + m → get_or v (start + i) 0 ≡ get_or (spread false ms xs w) i 0
-  weight-in i h =
-      let n : length (take start o) ≡ start = length-take-le start o l in
-      sym (get_or-take (start + m) v (start + i) 0 h)
-      ∙ ap (λ (u : List ℕ). get_or u (start + i) 0) e
-      ∙ ap (λ (k : ℕ). get_or (take start o ++ spread false ms xs w) (k + i) 0) (sym n)
-      ∙ get_or-append-add (take start o) (spread false ms xs w) i 0
+-- ---- a part of a word by itself
+module _ (w : List ℕ) (s n : ℕ) where
+  part-at : (i : ℕ) → i < n → get_or (take n (drop s w)) i 0 ≡ get_or w (s + i) 0
+  part-at i h = get_or-take n (drop s w) i 0 h ∙ get_or-drop s w i 0
 
-  pub singles-bad : BadIn v start (start + m) → BadIn w 0 (length w)
-  singles-bad b =
-      let f = b.from in
+  bits-part : (k : ℕ) → k ≤ n → BitsIn (take n (drop s w)) 0 k → BitsIn w s (s + k)
+  bits-part k h f i a b =
+      let e : s + (i - s) ≡ i = omega arith in
+      let u : get_or w (s + (i - s)) 0 ≤ 1 = rw (← part-at (i - s) (omega arith)) (f (i - s) (omega arith) (omega arith)) in
+      subst (λ (j : ℕ). get_or w j 0 ≤ 1) e u
+
+  bad-part : (k : ℕ) → k ≤ n → BadIn (take n (drop s w)) 0 k → BadIn w s (s + k)
+  bad-part k h b =
       let t = b.to in
-      let a = b.above in
-      let k : start + (b.index - start) ≡ b.index = omega arith in
-      let u : 1 < get_or (spread false ms xs w) (b.index - start) 0 = rw (← weight-in (b.index - start) (omega arith), k) a in
-      let j = spread-bad ms xs w (b.index - start) u in
-      bad-within w {s = 0} {e = suc j.0} (record { index = j.0; from = omega arith; to = omega arith; above = j.1 })
+      record { index = s + b.index; from = omega arith; to = omega arith; above = rw (← part-at b.index (omega arith)) b.above }
 
-  pub singles-bits : (k : ℕ) → BitsIn w 0 k → BitsIn v (start + k) (start + m) → length (spread false ms xs w) ≤ m → BitsIn w 0 (free ms xs)
-  singles-bits k s f h = spread-bits ms xs w k s (λ i l. go i l (dec_lt i m))
-    where
-      go : (i : ℕ) → k ≤ i → Dec (i < m) → get_or (spread false ms xs w) i 0 ≤ 1
-      go i l (yes j) = rw (← weight-in i (omega arith)) (f (start + i) (omega arith) (omega arith))
-      go i l (no j) = rw (get_or-eq_default (spread false ms xs w) 0 {n = i} (omega arith)) (omega arith)
+  pub says-part : (k : ℕ) → k ≤ n → (x : Bool) → Says x (take n (drop s w)) 0 k → Says x w s (s + k)
+  says-part k h true f = bits-part k h f
+  says-part k h false f = bad-part k h f
 
--- the weights of the pairs, put before those of the singles
-pub laid_both : (start k : ℕ) (v u r : List ℕ) (x y : List ℕ) → length r ≡ start → start ≤ length v → start ≤ length u → take (start + k) u ≡ take start v ++ y → take start r ≡ x
-    → take (start + k) (r ++ drop start u) ≡ x ++ y
-laid_both start k v u r x y l h i e f =
-    let t : take start r ≡ r = take_all start r (omega arith) in
-    let z : take k (drop start u) ≡ y =
-    sym (drop_at (take start u) (take k (drop start u)) start (length-take-le start u i))
-    ∙ ap (drop start) (sym (take-add start k u) ∙ e)
-    ∙ drop_at (take start v) y start (length-take-le start v h) in
-    ap (λ (i : ℕ). take (i + k) (r ++ drop start u)) (sym l) ∙ take-append-add r (drop start u) k ∙ ap₂ ◌++◌ (sym t ∙ f) z
-
--- the first `start` weights, taken by themselves, are still as many
-pub part_length : (start : ℕ) (v u r : List ℕ) → length (r ++ drop start u) ≡ length v → length u ≡ length v → start ≤ length u → length r ≡ start
-part_length start v u r e f h = let a = length-append r (drop start u) in let b = length-drop start u in omega arith
+  pub highest-part : (k x : ℕ) → k ≤ n → Highest (take n (drop s w)) 0 k x → Highest w s (s + k) x
+  highest-part k x h f =
+      record {
+        most = λ i a b. let e : s + (i - s) ≡ i = omega arith in let u : get_or w (s + (i - s)) 0 ≤ x = rw (← part-at (i - s) (omega arith)) (f.most (i - s) (omega arith) (omega arith)) in subst (λ (j : ℕ). get_or w j 0 ≤ x) e u;
+        some = λ g. bad-part k h (f.some g);
+      }
 
 -- ---- what the two parts of a message come to
 module _ (a b count part : ℕ) (w : List ℕ) (L : HoldsMessage a b count part (length w)) where
@@ -257,123 +246,81 @@ module _ (a b count part : ℕ) (w : List ℕ) (L : HoldsMessage a b count part 
       let r = L.front in
       omega arith
 
-  pub singles-all : (e start : ℕ) → SinglesRoom a b count part w L e start → (o v : List ℕ) → take count v ≡ take (2 * plus_to a b b) o ++ spread false (moduli a b) (even (level a b b)) w
-      → 2 * plus_to a b b ≤ length o → (k : ℕ) → BitsIn w 0 k → BitsIn v (start + k) (start + e) → BitsIn w 0 part
-  singles-all e start R o v g h k s f =
-      let ms = moduli a b in
-      let c : start + e ≡ count = R.whole in
-      let p = R.pairs in
-      let n : length (spread false ms (even (level a b b)) w) ≡ even_to a b b = length-spread false ms (even (level a b b)) w in
-      let r : free ms (even (level a b b)) ≡ part =
-      ap (free ms) (even-all a b) ∙ sym (length-map (select (others ms) (even ms)) (element ms)) ∙ ap length (singles-members ms) ∙ sym L.front in
-      let ev = R.evens in
-      let t : take (start + e) v ≡ take start o ++ spread false ms (even (level a b b)) w = rw (c, p) g in
-      subst (BitsIn w 0) r (singles-bits ms (even (level a b b)) w o v start e t (omega arith) k s f (omega arith))
-
-  pub laid-whole : (e start : ℕ) → SinglesRoom a b count part w L e start → (v u r x y : List ℕ) → take count u ≡ take (2 * plus_to a b b) v ++ y → take (2 * plus_to a b b) r ≡ x
-      → Holds a b (length v) → length (r ++ drop start u) ≡ length v → length u ≡ length v → take count (r ++ drop start u) ≡ x ++ y
-  laid-whole e start R v u r x y f g h l k =
-      let c = R.whole in
-      let p = R.pairs in
-      let q = R.space in
-      let n = h.enough in
-      let f' : take (start + e) u ≡ take start v ++ y = rw (c, p) f in
-      let g' : take start r ≡ x = rw p g in
-      rw (← c) (laid_both start e v u r x y (part_length start v u r l k (omega arith)) (omega arith) (omega arith) f' g')
-
-  -- the same behind what v holds already
-  pub laid-before : (e start : ℕ) → SinglesRoom a b count part w L e start → (v r x : List ℕ) → take (2 * plus_to a b b) r ≡ x → Holds a b (length v)
-      → length (r ++ drop start v) ≡ length v → take count (r ++ drop start v) ≡ x ++ drop (2 * plus_to a b b) (take count v)
-  laid-before e start R v r x g h l =
-      let c = R.whole in
-      let p = R.pairs in
-      let q : 2 * plus_to a b b ≤ count = omega arith in
-      laid-whole e start R v v r x (drop (2 * plus_to a b b) (take count v)) (split (2 * plus_to a b b) count v q) g h l refl
-    where
-      split : (k n : ℕ) (u : List ℕ) → k ≤ n → take n u ≡ take k u ++ drop k (take n u)
-      split k n u h = sym (take-append-drop k (take n u)) ∙ ap (λ (z : List ℕ). z ++ drop k (take n u)) (take-take k n u h)
-
   -- a test of the weights of the singles, from k on where the first k bytes were tested before
-  pub singles-told : (e start : ℕ) → SinglesRoom a b count part w L e start → (o v : List ℕ) → take count v ≡ take (2 * plus_to a b b) o ++ spread false (moduli a b) (even (level a b b)) w
-      → 2 * plus_to a b b ≤ length o → (k n : ℕ) → BitsIn w 0 k → n ≡ start + e → (t : Bool) → Says t v (start + k) n → Tells t w 0 part
-  singles-told e start R o v g q k n f z true s = singles-all e start R o v g q k f (λ i a l. s i a (omega arith))
-  singles-told e start R o v g q k n f z false s =
-      let c = R.whole in
-      let p = R.pairs in
-      let x : take (start + e) v ≡ take start o ++ spread false (moduli a b) (even (level a b b)) w = rw (c, p) g in
-      singles-bad (moduli a b) (even (level a b b)) w o v start e x (omega arith) (wider v (omega arith) (omega arith) s)
+  pub singles-told : (v : List ℕ) → v ≡ spread false (moduli a b) (even (level a b b)) w → (k : ℕ) → BitsIn w 0 k → (t : Bool) → Says t (take (length v - k) (drop k v)) 0 (length (take (length v - k) (drop k v)))
+      → Tells t w 0 part
+  singles-told v e k s t f = go t (says-part v k (length v - k) (length (take (length v - k) (drop k v))) (let m = n in omega arith) t f)
+    where
+      ms : List Modulus
+      ms = moduli a b
 
--- ---- a loop that has taken i of n bytes
-pub record Rising (w : List ℕ) (start n most i : ℕ) : Type 0 where
-  pub within : i ≤ n
-  pub high : Highest w start (start + i) most
+      n : length (take (length v - k) (drop k v)) ≡ length v - k
+      n = length-take-le (length v - k) (drop k v) (let d = length-drop k v in omega arith)
 
-pub rising-start : (w : List ℕ) (start n : ℕ) → Rising w start n 0 0
-rising-start w start n = let e : start + 0 ≡ start = omega arith in record { within = omega arith; high = rw e (highest-none w start) }
+      one : (i : ℕ) → BitsIn v k (k + length (take (length v - k) (drop k v))) → k ≤ i → Dec (i < length v) → get_or v i 0 ≤ 1
+      one i g h (yes l) = let m = n in g i h (omega arith)
+      one i g h (no l) = rw (get_or-eq_default v 0 {n = i} (omega arith)) (omega arith)
 
-pub rising_step : (w : List ℕ) (start n most i x : ℕ) → Rising w start n most i → i < n → x ≡ pick (ltb most (get_or w (start + i) 0)) (get_or w (start + i) 0) most → Rising w start n x (i + 1)
-rising_step w start n most i x f h e =
-    let a : start + (i + 1) ≡ start + i + 1 = omega arith in
-    record { within = omega arith; high = rw a (highest-step w start (start + i) most x (omega arith) f.high e) }
+      all : free ms (even (level a b b)) ≡ part
+      all = ap (free ms) (even-all a b) ∙ sym (length-map (select (others ms) (even ms)) (element ms)) ∙ ap length (singles-members ms) ∙ sym L.front
 
-pub rising-end : (w : List ℕ) (start n most i : ℕ) → Rising w start n most i → n ≤ i → Highest w start (start + n) most
-rising-end w start n most i f h = let a = f.within in let e : i ≡ n = omega arith in rw (← e) f.high
+      go : (t : Bool) → Says t v k (k + length (take (length v - k) (drop k v))) → Tells t w 0 part
+      go true g = subst (BitsIn w 0) all (spread-bits ms (even (level a b b)) w k s (λ i h. subst (λ (u : List ℕ). get_or u i 0 ≤ 1) e (one i g h (dec_lt i (length v)))))
+      go false q =
+          let j = spread-bad ms (even (level a b b)) w q.index (subst (λ (u : List ℕ). 1 < get_or u q.index 0) e q.above) in
+          bad-within w {s = 0} {e = suc j.0} (record { index = j.0; from = omega arith; to = omega arith; above = j.1 })
 
 -- of two bytes
-pub highest-two : (w : List ℕ) (i x : ℕ) → x ≡ pick (ltb (get_or w i 0) (get_or w (i + 1) 0)) (get_or w (i + 1) 0) (get_or w i 0) → Highest w i (i + 2) x
+pub highest-two : (w : List ℕ) (i x : ℕ) → x ≡ max (get_or w i 0) (get_or w (i + 1) 0) → Highest w i (i + 2) x
 highest-two w i x e =
     let a : i + 1 + 1 ≡ i + 2 = omega arith in
     subst (λ (k : ℕ). Highest w i k x) a (highest-step w i (i + 1) (get_or w i 0) x (omega arith) (highest-one w i) e)
 
--- a stretch of pairs of which some are left out whole
-pub says-cut : (d at n first kept : ℕ) (w : List ℕ) → (d - at) % 2 ≡ 0 → first ≡ at - d → kept ≡ at + 2 * n - d - first
-    → (x : Bool) → Says x w first (first + 2 * (kept / 2)) → Says x (fill d w) at (at + 2 * n)
-says-cut d at n first kept w c e f x g =
-    let k : first + 2 * (kept / 2) ≡ at + 2 * n - d = omega arith in
-    says-filled d w x at (at + 2 * n) (rw (← e, ← k) g)
+-- the bytes from the index i on: n of them are 0 or 1; the first above 1 stands n bytes behind it; or there is none
+module _ (w : List ℕ) (i : ℕ) where
+  pub block-skip : (m n : ℕ) → m ≡ n → i + n ≤ length w → BitsIn (take m (drop i w)) 0 (length (take m (drop i w))) → bad_from (i + 1) (drop i w) ≡ bad_from (i + n + 1) (drop (i + n) w)
+  block-skip m n e h f =
+      let l = length-take-le m (drop i w) (let d = length-drop i w in omega arith) in
+      bad-skip w i n h (bits-part w i m n (omega arith) (λ j a b. f j a (omega arith)))
 
--- ---- what `row_of_pairs` says: of none, and of m pairs and one more
-pub says_none : (w : List ℕ) (at n : ℕ) → n ≡ 0 → BitsIn w at (at + 2 * n)
-says_none w at n e i h l = absurd (omega arith)
+  abbrev rest : List ℕ
+  rest = take (length w - i) (drop i w)
 
-pub says-rows : (w : List ℕ) (at n m : ℕ) → n ≡ m + 1 → (x : ℕ) → Highest w at (at + 2 * m) x → (z : ℕ) → Highest w (at + 2 * m) (at + 2 * m + 2) z
-    → (q : ℕ) → q ≡ pick (ltb x z) z x → Says (leb q 1) w at (at + 2 * n)
-says-rows w at n m e x a z c q h =
-    let j : at + 2 * m + 2 ≡ at + 2 * n = omega arith in
-    highest-says w at (at + 2 * n) q
-    (highest-join w at (at + 2 * m) (at + 2 * m) (at + 2 * n) x z q a (subst (λ (k : ℕ). Highest w (at + 2 * m) k z) j c) (omega arith) (omega arith) (omega arith) h)
+  pub length-rest : length rest ≡ length w - i
+  length-rest = let d = length-drop i w in length-take-le (length w - i) (drop i w) (omega arith)
+
+  pub bad-at : (n : ℕ) → n < length rest → 1 < get_or rest n 0 → BitsIn rest 0 n → i + n + 1 ≡ bad_from (i + 1) (drop i w)
+  bad-at n h g f =
+      let l = length-rest in
+      let a : 1 < get_or w (i + n) 0 = rw (← part-at w i (length w - i) n (omega arith)) g in
+      sym (bad-skip w i n (omega arith) (bits-part w i (length w - i) n (omega arith) f) ∙ bad-found w (i + n) (omega arith) a)
+
+  pub bad-not : i ≤ length w → BitsIn rest 0 (length rest) → 0 ≡ bad_from (i + 1) (drop i w)
+  bad-not h f =
+      let l = length-rest in
+      sym (bad-skip w i (length rest) (omega arith) (bits-part w i (length w - i) (length rest) (omega arith) f) ∙ bad-end w (i + length rest) (omega arith))
+
+-- a part that was tested whole, and the value that is told where it was good
+pub told-some : {A : Type 0} (w : List ℕ) (e y : A) (r : Option A) (x : Bool) → r ≡ then_some x e → Says x w 0 (length w) → e ≡ y
+    → MatchOption r (BadIn w 0 (length w)) (λ z. BitsIn w 0 (length w) × (z ≡ y))
+told-some w e y r true a f g = rw a (f, g)
+told-some w e y r false a f g = rw a f
+
+-- a test of the front of a word
+pub front-told : (w : List ℕ) (n : ℕ) → n ≤ length w → (r : Option ℕ) (x : Bool) → r ≡ then_some {T = ℕ} x n → Says x (take n w) 0 (length (take n w))
+    → MatchOption r (BadIn w 0 (length w)) (λ k. (k ≤ length w) × BitsIn w 0 k)
+front-told w n h r x e f = go x e (subst (Says x w 0) (omega arith) (says-part w 0 n n (omega arith) x (subst (Says x (take n w) 0) (length-take-le n w h) f)))
+  where
+    go : (x : Bool) → r ≡ then_some {T = ℕ} x n → Says x w 0 n → MatchOption r (BadIn w 0 (length w)) (λ k. (k ≤ length w) × BitsIn w 0 k)
+    go true e f = rw e (h, f)
+    go false e f = rw e (bad-within w f)
 
 -- a test of the last bytes of a word
 pub says-tells : (w : List ℕ) (s e : ℕ) (x : Bool) → Says x w s e → Tells x w s e
 says-tells w s e true f = f
 says-tells w s e false f = bad-within w f
 
--- two bytes more
-pub highest-steps : (w : List ℕ) (s e x y z : ℕ) → s ≤ e → Highest w s e x → y ≡ pick (ltb x (get_or w e 0)) (get_or w e 0) x → z ≡ pick (ltb y (get_or w (e + 1) 0)) (get_or w (e + 1) 0) y
-    → Highest w s (e + 2) z
-highest-steps w s e x y z h f g l =
-    let a : e + 1 + 1 ≡ e + 2 = omega arith in
-    subst (λ (k : ℕ). Highest w s k z) a (highest-step w s (e + 1) y z (omega arith) (highest-step w s e x y h f g) l)
-
 -- ---- a pass over a message, singles and then pairs, and over a word, the message and then the check part
 pub tells-pairs : (w : List ℕ) (part end : ℕ) (t : Bool) → BitsIn w 0 part → Tells t w part end → Tells t w 0 end
 tells-pairs w part end true f g = bits-join w 0 part end f g
 tells-pairs w part end false f g = g
-
--- ---- the front of a word
-pub head-short : (n : ℕ) → n < 192 → head_of n ≡ n
-head-short n h = rw (lt-ltb n 192 h)
-
-pub head-middle : (n : ℕ) → 192 ≤ n → n < 1024 → head_of n ≡ 192
-head-middle n h k = rw (le-ltb n 192 h, lt-ltb n 1024 k)
-
-pub head-long : (n : ℕ) → 192 ≤ n → 1024 ≤ n → head_of n ≡ 512
-head-long n h k = rw (le-ltb n 192 h, le-ltb n 1024 k)
-
-pub head-within : (n : ℕ) → head_of n ≤ n
-head-within n = go (dec_lt n 192) (dec_lt n 1024)
-  where
-    go : Dec (n < 192) → Dec (n < 1024) → head_of n ≤ n
-    go (yes h) k = let e = head-short n h in omega arith
-    go (no h) (yes k) = let e = head-middle n (omega arith) k in omega arith
-    go (no h) (no k) = let e = head-long n (omega arith) (omega arith) in omega arith

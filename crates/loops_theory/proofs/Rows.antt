@@ -56,7 +56,7 @@ row-zeros false (suc z) k x =
     rw (a, b) (ap {B = List ℕ} (λ (r : List ℕ). 0 ∷ r) (row-zeros false z k x))
 
 -- z slots of it are left out, and then all, or no further place is
-row_cut : (p : Bool) (d at z k rest : ℕ) (w : List ℕ) → d - at ≡ width_of p * z + rest → (rest ≡ 0) ⊎ (k ≡ 0)
+pub row_cut : (p : Bool) (d at z k rest : ℕ) (w : List ℕ) → d - at ≡ width_of p * z + rest → (rest ≡ 0) ⊎ (k ≡ 0)
     → row p (z + k) (drop at (fill d w)) ≡ zero_word (width_of p * z) ++ row p k (drop (at - d) w)
 unfolding row
 row_cut p d at z k rest w e c =

@@ -1,5 +1,5 @@
 -- What the functions of coding answer, from what a pass tells: the pass over a word, and the encoding of a message. Assumes nothing.
-use mathlib.Core.Path.{◌≡◌, refl, sym, ap, ap₂, ◌∙◌}
+use mathlib.Core.Path.{◌≡◌, refl, sym, ap, ap₂, subst, ◌∙◌}
 use mathlib.Core.Logic.{◌≢◌}
 use mathlib.Core.Bool.{Bool, true, false}
 use mathlib.Core.List.{List, ◌++◌, append_assoc}
@@ -7,8 +7,8 @@ use Prim.Native.Nat.{ℕ, ◌+◌, ◌-◌, ◌*◌, ◌^◌, ◌<◌, ◌≤◌
 use native.Mathlib.Omega.{arith}
 use borrow.Author.Tests.{eq-eqb, ne_eqb}
 use lib.Dec.{eqb}
-use lib.ListN.{length, take, drop, length-replicate}
-use lib.Seq.{length-take-le, drop-drop, drop_at, take-append_seam, drop-append_seam}
+use lib.ListN.{length, take, drop, length-drop, length-replicate}
+use lib.Seq.{take_all, drop_at}
 use Rattle.group_theory.specs.Group.{Modulus, moduli, sum, negative}
 use Rattle.layout_theory.specs.Choice.{pick}
 use Rattle.layout_theory.specs.Parameters.{places_of, message_of, moduli_for}
@@ -27,12 +27,10 @@ use Rattle.shortened_theory.specs.Code.{fill, shortened_syndrome, shortened_enco
 use Rattle.shortened_theory.specs.Calls.{Fits}
 use Rattle.shortened_theory.proofs.Filling.{length-fill}
 use Rattle.loops_theory.specs.Spread.{spread, message_in, HoldsMessage, HoldsFilled}
-use Rattle.loops_theory.specs.Passing.{BitsIn, Tells}
+use Rattle.loops_theory.specs.Passing.{BitsIn, BadIn}
 use Rattle.loops_theory.proofs.Answers.{places-room, holds-message, syndrome-sum}
-use Rattle.loops_theory.proofs.Segments.{weights-sum}
-use Rattle.loops_theory.proofs.Laying.{room_for}
 use Rattle.loops_theory.proofs.Rows.{drop-fill}
-use Rattle.loops_theory.proofs.Passing.{bits-join, bits-unfilled, bad-unfilled, bits-zero}
+use Rattle.loops_theory.proofs.Passing.{bits-join, bits-unfilled, bits-zero, bad-within, length-rest, says-part}
 
 -- a place of a word is a number of 32 bits
 pub bad-small : (t r d n : ℕ) (w : List ℕ) → Fits t r d n (length w) → n ≤ places_of t → (x : ℕ) → x ≡ bad_from 1 w → x < 2 ^ 32
@@ -75,7 +73,7 @@ module _ (t r d : ℕ) (s : Shape) (e : s ≡ shape_for t r) (w : List ℕ) (f :
       let st = f.allowed.stays in
       (omega (arith, k.message), omega (arith, k.message, k.places, z.check))
 
-  pub parts-sum : (x y z : List ℕ) → x ≡ syndrome_over ms (message ms) (fill d w) → y ≡ syndrome_over ms (units ms) (drop (s.message - d) w) → z ≡ sum ms x y
+  parts-sum : (x y z : List ℕ) → x ≡ syndrome_over ms (message ms) (fill d w) → y ≡ syndrome_over ms (units ms) (drop (s.message - d) w) → z ≡ sum ms x y
       → z ≡ shortened_syndrome (moduli_for t r) d w
   unfolding shortened_syndrome
   parts-sum x y z a b c =
@@ -83,13 +81,32 @@ module _ (t r d : ℕ) (s : Shape) (e : s ≡ shape_for t r) (w : List ℕ) (f :
       let q : drop s.message (fill d w) ≡ drop (s.message - d) w = drop-fill d s.message w ∙ ap (λ (i : ℕ). zero_word i ++ drop (s.message - d) w) o in
       c ∙ ap₂ (sum ms) a (b ∙ ap (syndrome_over ms (units ms)) (sym q)) ∙ syndrome-sum t r (fill d w) s k
 
-  pub parts-told : BitsIn w (s.message - d) (s.message - d + (s.a + 2 * s.b)) → (x : Bool) → Tells x (fill d w) 0 (message_in s.a s.b) → Tells x w 0 (length w)
-  parts-told h true g =
+  parts-bits : BitsIn w (s.message - d) (s.message - d + (s.a + 2 * s.b)) → BitsIn (fill d w) 0 (message_in s.a s.b) → BitsIn w 0 (length w)
+  parts-bits h g =
       let z = (sizes-known t r s k).front in
       let c = check-fits.1 in
       let u : BitsIn w 0 (s.message - d) = λ i a b. bits-unfilled d w 0 (message_in s.a s.b) g i (omega arith) (omega arith) in
       bits-join w 0 (s.message - d) (length w) u (λ i a b. h i a (omega arith))
-  parts-told h false g = bad-unfilled d w g
+
+  -- the check part by itself
+  abbrev check : List ℕ
+  check = take (length w - (s.message - d)) (drop (s.message - d) w)
+
+  pub check-length : length check ≡ s.a + 2 * s.b
+  check-length = let c = check-fits in let c1 = c.1 in length-rest w (s.message - d) ∙ omega arith
+
+  pub check-bad : BadIn check 0 (length check) → BadIn w 0 (length w)
+  check-bad b = let l = length-rest w (s.message - d) in bad-within w (says-part w (s.message - d) (length w - (s.message - d)) (length check) (omega arith) false b)
+
+  pub parts-good : (x y z : List ℕ) → BitsIn check 0 (length check) → y ≡ syndrome_over ms (units ms) check → BitsIn (fill d w) 0 (message_in s.a s.b)
+      → x ≡ syndrome_over ms (message ms) (fill d w) → z ≡ sum ms x y → BitsIn w 0 (length w) × (z ≡ shortened_syndrome (moduli_for t r) d w)
+  parts-good x y z h b g a c =
+      let l = length-rest w (s.message - d) in
+      let e = length-drop (s.message - d) w in
+      let n = check-length in
+      let u : BitsIn w (s.message - d) (s.message - d + (s.a + 2 * s.b)) =
+      subst (λ (i : ℕ). BitsIn w (s.message - d) (s.message - d + i)) n (says-part w (s.message - d) (length w - (s.message - d)) (length check) (omega arith) true h) in
+      (parts-bits u g, parts-sum x y z a (b ∙ ap (syndrome_over ms (units ms)) (take_all (length w - (s.message - d)) (drop (s.message - d) w) (omega arith))) c)
 
 -- ---- a message
 module _ (t r d : ℕ) (s : Shape) (e : s ≡ shape_for t r) (m : List ℕ) (f : Fits t r d (message_of t) (length m)) where
@@ -103,27 +120,20 @@ module _ (t r d : ℕ) (s : Shape) (e : s ≡ shape_for t r) (m : List ℕ) (f :
       let q = known.message in
       bits-zero m (λ i a b. bits-unfilled d m 0 (message_in s.a s.b) g i (omega arith) (omega arith))
 
-  -- the message is copied, and the check digits follow it
-  pub encoded-filled : (old copied x y new : List ℕ) → places_of t - d ≤ length old → x ≡ syndrome_over (moduli s.a s.b) (message (moduli s.a s.b)) (fill d m) → y ≡ negative (moduli s.a s.b) x
-      → copied ≡ m ++ drop (length m) old
-      → new ≡ take (length m) copied ++ (check_digits (moduli s.a s.b) y ++ drop (length m + (s.a + 2 * s.b)) copied)
+  -- the check digits follow the message
+  encoded-filled : (old x y new : List ℕ) → x ≡ syndrome_over (moduli s.a s.b) (message (moduli s.a s.b)) (fill d m) → y ≡ negative (moduli s.a s.b) x
+      → new ≡ m ++ (check_digits (moduli s.a s.b) y ++ drop (length m + (s.a + 2 * s.b)) old)
       → new ≡ shortened_encode (moduli_for t r) d m ++ drop (places_of t - d) old
   unfolding shortened_encode encode
-  encoded-filled old copied x y new h a b c g =
+  encoded-filled old x y new a b g =
       let ms = moduli s.a s.b in
       let z = sizes-known t r s known in
       let l = f.all in
       let st = f.allowed.stays in
       let n : length m + (s.a + 2 * s.b) ≡ places_of t - d = omega (arith, known.message, known.places, z.check) in
-      let u : take (length m) copied ≡ m = ap (take (length m)) c ∙ take-append_seam m (drop (length m) old) in
-      let v : drop (length m + (s.a + 2 * s.b)) copied ≡ drop (places_of t - d) old =
-      sym (drop-drop (s.a + 2 * s.b) (length m) copied)
-      ∙ ap (drop (s.a + 2 * s.b)) (ap (drop (length m)) c ∙ drop-append_seam m (drop (length m) old))
-      ∙ drop-drop (s.a + 2 * s.b) (length m) old
-      ∙ ap (λ (i : ℕ). drop i old) n in
       let q : y ≡ negative (moduli_for t r) (syndrome_over (moduli_for t r) (message (moduli_for t r)) (fill d m)) =
       b ∙ ap (negative ms) a ∙ ap (λ (k : List Modulus). negative k (syndrome_over k (message k) (fill d m))) (moduli-known t r s known) in
-      g ∙ ap₂ (λ (i j : List ℕ). i ++ (check_digits ms y ++ j)) u v
+      g ∙ ap (λ (i : ℕ). m ++ (check_digits ms y ++ drop i old)) n
       ∙ sym (append_assoc m (check_digits ms y) (drop (places_of t - d) old))
       ∙ ap (λ (i : List ℕ). i ++ drop (places_of t - d) old)
       (ap₂ (λ (k : List Modulus) (i : List ℕ). m ++ check_digits k i) (moduli-known t r s known) q
@@ -131,24 +141,10 @@ module _ (t r d : ℕ) (s : Shape) (e : s ≡ shape_for t r) (m : List ℕ) (f :
       ∙ drop_at (zero_word d) (m ++ check_digits (moduli_for t r) (negative (moduli_for t r) (syndrome_over (moduli_for t r) (message (moduli_for t r)) (fill d m)))) d (length-replicate d 0)))
 
   -- the same as it is written, and nothing where a byte is above 1
-  pub encoded-good : (old new : List ℕ) → bad_from 1 m ≡ 0 → new ≡ shortened_encode (moduli_for t r) d m ++ drop (places_of t - d) old
+  pub encoded-good : (old x y new : List ℕ) → bad_from 1 m ≡ 0 → x ≡ syndrome_over (moduli s.a s.b) (message (moduli s.a s.b)) (fill d m) → y ≡ negative (moduli s.a s.b) x
+      → new ≡ m ++ (check_digits (moduli s.a s.b) y ++ drop (length m + (s.a + 2 * s.b)) old)
       → new ≡ written (eqb (bad_from 1 m) 0) (places_of t - d) (shortened_encode (moduli_for t r) d m) old
-  encoded-good old new h g = rw (eq-eqb (bad_from 1 m) 0 h) g
+  encoded-good old x y new h a b g = rw (eq-eqb (bad_from 1 m) 0 h) (encoded-filled old x y new a b g)
 
   pub encoded-bad : (old : List ℕ) → bad_from 1 m ≢ 0 → old ≡ written (eqb (bad_from 1 m) 0) (places_of t - d) (shortened_encode (moduli_for t r) d m) old
   encoded-bad old h = rw (ne_eqb (bad_from 1 m) 0 h)
-
--- the sum of a word that was found good, of the singles laid out behind the first weights of o and the pairs before them
-pub laid-sum : (t a b count part : ℕ) (w : List ℕ) → a + 2 * b ≤ t → HoldsMessage a b count part (length w) → (o u r : List ℕ)
-    → take count u ≡ take (2 * plus_to a b b) o ++ spread false (moduli a b) (even (level a b b)) w → Holds a b (length o)
-    → take count r ≡ spread true (moduli a b) (plus (level a b b)) (drop part w) ++ drop (2 * plus_to a b b) (take count u)
-    → (x : List ℕ) (k : ℕ) (good : Bool) → k ≡ pick good a 13 → good ≡ true → x ≡ weighted_for t k b r → x ≡ syndrome_over (moduli a b) (message (moduli a b)) w
-laid-sum t a b count part w within L o u r f h g x k good e y z =
-    let n = 2 * plus_to a b b in
-    let R = room_for a b count part w L (part + a + 1) (count - (part + a + 1)) refl refl in
-    let l = h.enough in
-    let m : n ≤ length o = omega (arith, R.pairs, R.space) in
-    let d : drop n (take count u) ≡ spread false (moduli a b) (even (level a b b)) w =
-    ap (drop n) f ∙ drop_at (take n o) (spread false (moduli a b) (even (level a b b)) w) n (length-take-le n o m) in
-    z ∙ ap (λ (i : ℕ). weighted_for t i b r) (e ∙ ap (λ (p : Bool). pick p a 13) y)
-    ∙ weights-sum t a b part count r w within L.few L.front L.all (g ∙ ap (λ (q : List ℕ). spread true (moduli a b) (plus (level a b b)) (drop part w) ++ q) d)

@@ -21,7 +21,7 @@ use Rattle.blocks_theory.proofs.Blocks.{select_no, select-append}
 use Rattle.blocks_theory.proofs.Levels.{all_left, size-next, plus_none}
 use Rattle.blocks_theory.proofs.Members.{pairs-members, singles-members, plus-all, even-all, sign-level}
 use Rattle.blocks_theory.proofs.Splits.{unit-four, no-unit-four, no-unit-two, tail, plus-split, pair-counts, size-twos-of, low-split, pow_pos, unit-low, even-unit, high, size_low, size-rises, even-split}
-use Rattle.folds_theory.specs.Folds.{widest, twice, weight_order, weighted_for}
+use Rattle.folds_theory.specs.Folds.{Holds, twice, weight_order, weighted_for}
 use Rattle.folds_theory.proofs.Levelling.{on-take}
 use Rattle.folds_theory.proofs.Wholes.{with-room, order-fits}
 use Rattle.words_theory.specs.Syndrome.{syndrome_over}
@@ -30,27 +30,27 @@ use Rattle.loops_theory.specs.Spread.{spread, row}
 use Rattle.loops_theory.proofs.Spreads.{free, spread-yes, spread-append, spread_row, on-spread, length-spread}
 
 -- ---- the weights make the message's sum
-pub weights-sum : (t a b part count : ℕ) (v w : List ℕ) → a + 2 * b ≤ t → a + 2 * b ≤ widest → part ≡ length (singles (moduli a b)) → count ≡ size (moduli a b)
+pub weights-sum : (n a b part count : ℕ) (v w : List ℕ) → Holds a b n → part ≡ length (singles (moduli a b)) → count ≡ size (moduli a b)
     → take count v ≡ spread true (moduli a b) (blocks.plus (level a b b)) (drop part w) ++ spread false (moduli a b) (blocks.even (level a b b)) w
-    → weighted_for t a b v ≡ syndrome_over (moduli a b) (message (moduli a b)) w
+    → weighted_for n a b v ≡ syndrome_over (moduli a b) (message (moduli a b)) w
 unfolding message weight_order
-weights-sum t a b part count v w within few h z e =
+weights-sum n a b part count v w within h z e =
     let ms = moduli a b in
-    let n : length (places ms (map single (singles ms))) ≡ length (singles ms) = ap length (places-singles ms (singles ms)) in
+    let l : length (places ms (map single (singles ms))) ≡ length (singles ms) = ap length (places-singles ms (singles ms)) in
     let x : weigh_on ms (twice (blocks.plus ms)) (spread true ms (blocks.plus ms) (drop part w)) ≡ syndrome_over ms (map pair (pairs ms)) (drop part w) =
     on-spread true ms (blocks.plus ms) (drop part w) ∙ ap (λ (xs : List (List ℕ)). syndrome_over ms (map pair xs) (drop part w)) (pairs-members ms) in
     let y : weigh_on ms (blocks.even ms) (spread false ms (blocks.even ms) w) ≡ syndrome_over ms (map single (singles ms)) w =
     on-spread false ms (blocks.even ms) w ∙ ap (λ (xs : List (List ℕ)). syndrome_over ms (map single xs) w) (singles-members ms) in
     let g : take count v ≡ spread true ms (blocks.plus ms) (drop part w) ++ spread false ms (blocks.even ms) w =
     e ∙ ap₂ (λ (xs ys : List ℕ). spread true ms xs (drop part w) ++ spread false ms ys w) (plus-all a b) (even-all a b) in
-    with-room t a b v within
-    ∙ sym (on-take ms (weight_order ms) v count (rw z (order-fits a b few)))
+    with-room n a b v within
+    ∙ sym (on-take ms (weight_order ms) v count (rw z (order-fits a b within.few)))
     ∙ ap (weigh_on ms (twice (blocks.plus ms) ++ blocks.even ms)) g
     ∙ on-append ms (twice (blocks.plus ms)) (blocks.even ms) (spread true ms (blocks.plus ms) (drop part w)) (spread false ms (blocks.even ms) w)
     (length-spread true ms (blocks.plus ms) (drop part w))
     ∙ ap₂ (sum ms) x y
     ∙ sum_comm ms (syndrome_over ms (map pair (pairs ms)) (drop part w)) (syndrome_over ms (map single (singles ms)) w)
-    ∙ ap (λ (k : ℕ). sum ms (syndrome_over ms (map single (singles ms)) w) (syndrome_over ms (map pair (pairs ms)) (drop k w))) (h ∙ sym n)
+    ∙ ap (λ (k : ℕ). sum ms (syndrome_over ms (map single (singles ms)) w) (syndrome_over ms (map pair (pairs ms)) (drop k w))) (h ∙ sym l)
     ∙ sym (syndrome-parts ms (map single (singles ms)) (map pair (pairs ms)) w)
 
 module _ (a b : ℕ) (h : a + b ≤ 12) where

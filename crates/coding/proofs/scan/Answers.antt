@@ -3,10 +3,5 @@ use Rattle.std.proofs.Common.{sym, ◌∙◌}
 use Rattle.loops_theory.proofs.ByFilling.{scan-none}
 use Rattle.coding.proofs.scan.Goals as goal
 
-pub scan_fit-requires : goal.scan_fit-requires
-scan_fit-requires c = sym c.fits_word.ensures ∙ c.if-fits_word.true
-
 pub returns : goal.returns
-returns c =
-    let w = c.args.word.now in
-    rw c.zero.ensures (scan-none _ _ _ w (sym c.fits_word.ensures ∙ c.if-fits_word.false))
+returns c = rw c.zero.ensures (scan-none _ _ _ c.args.word.now (sym c.fits_word.ensures ∙ c.if-fits_word.false))

@@ -5,7 +5,7 @@ use Rattle.folds.proofs.both.Goals as goal
 use Rattle.folds.proofs.both.Goals.{After-power-e}
 
 -- what is known once n and e are there
-known : (c : After-power-e) → Shares c.args.a c.args.b c.power-n.result c.power-e.result
+known : (c : After-power-e) → Shares c.args.m.a c.args.m.b c.power-n.result c.power-e.result
 known c = shares _ _ _ _ c.requires.few c.power-n.ensures c.power-e.ensures
 
 pub overflow_sub-n : goal.overflow_sub-n
@@ -14,9 +14,9 @@ overflow_sub-n c = let S = known (goal.at.overflow_sub-n c).After-power-e in sea
 pub halves-x-requires : goal.halves-x-requires
 halves-x-requires c = let S = known (goal.at.halves-x-requires c).After-power-e in search rules
 
-pub returns-then-b-eq0 : goal.returns-then-b-eq0
-returns-then-b-eq0 c =
-    singles-only _ _ _ _ (known (goal.at.returns-then-b-eq0 c).After-power-e) c.if-b-eq0.true c.power-n.ensures c.power-e.ensures _ _ _ (search rules) c.zero-none.ensures c.halves-x.ensures.sum
+pub returns-then-m-eq0 : goal.returns-then-m-eq0
+returns-then-m-eq0 c =
+    singles-only _ _ _ _ (known (goal.at.returns-then-m-eq0 c).After-power-e) c.if-m-eq0.true c.power-n.ensures c.power-e.ensures _ _ _ (search rules) c.zero-none.ensures c.halves-x.ensures.sum
 
 pub returns : goal.returns
 returns c =

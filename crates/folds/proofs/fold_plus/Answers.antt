@@ -1,4 +1,5 @@
 -- `folds::fold_plus` meets its contract. Assumes nothing.
+use Rattle.std.proofs.Common.{refl}
 use Rattle.folds_theory.proofs.Offs.{length-plus}
 use Rattle.folds_theory.proofs.Gathers.{plus-start, plus_step, gather-done}
 use Rattle.folds.proofs.fold_plus.Goals as goal
@@ -8,7 +9,7 @@ loop-i-init c = plus-start _ _ _ c.requires.0
 
 pub loop-i-preserved : goal.loop-i-preserved
 loop-i-preserved c =
-    plus_step _ _ _ c.requires.0 _ _ _ _ c.loop-i.invariant c.loop-i-test.true c.wrapping_add_u8-c.ensures.value
+    plus_step _ _ _ c.requires.0 _ _ _ _ c.loop-i.invariant c.loop-i-test.true refl
 
 pub returns : goal.returns
 returns c =

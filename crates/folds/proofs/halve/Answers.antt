@@ -1,4 +1,5 @@
 -- `folds::halve` meets its contract. Assumes nothing.
+use Rattle.std.proofs.Common.{refl}
 use Rattle.folds_theory.proofs.Gathers.{halve-start, halve-step, halve-length, gather-done}
 use Rattle.folds.proofs.halve.Goals as goal
 
@@ -7,7 +8,7 @@ loop-i-init c = halve-start _ _ _ c.requires.0
 
 pub loop-i-preserved : goal.loop-i-preserved
 loop-i-preserved c =
-    halve-step _ _ _ c.requires.0 _ _ _ _ c.loop-i.invariant c.loop-i-test.true c.wrapping_add_u8-c.ensures.value
+    halve-step _ _ _ c.requires.0 _ _ _ _ c.loop-i.invariant c.loop-i-test.true refl
 
 pub returns : goal.returns
 returns c =

@@ -5,7 +5,7 @@ use Rattle.folds.proofs.pairs.Goals as goal
 use Rattle.folds.proofs.pairs.Goals.{After-power-e}
 
 -- what is known once n and e are there
-known : (c : After-power-e) → First c.args.a c.args.b c.power-n.result c.power-e.result
+known : (c : After-power-e) → First c.args.m.a c.args.m.b c.power-n.result c.power-e.result
 known c = let h = c.requires in first _ _ _ _ h.0.few h.1 c.power-n.ensures c.power-e.ensures
 
 pub overflow_sub-n : goal.overflow_sub-n

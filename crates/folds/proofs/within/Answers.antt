@@ -1,11 +1,11 @@
 -- `folds::within` meets its contract. Assumes nothing.
-use Rattle.std.proofs.Common.{◌+◌, ◌*◌, sym, arith}
-use borrow.Author.Tests.{lt-leb}
-use Rattle.folds_theory.proofs.Wholes.{half-leb}
+use Rattle.std.proofs.Common.{rules, arith, ◌≡◌, ◌≤◌, ◌↔◌, ◌^◌, ◌+◌, ◌*◌, IsTrue, subst}
+use Rattle.folds_theory.specs.Folds.{room, Holds}
+use Rattle.folds_theory.proofs.Levelling.{holds-power, holds-room}
 use Rattle.folds.proofs.within.Goals as goal
 
-pub returns-then-t-a : goal.returns-then-t-a
-returns-then-t-a c = let g = c.args in let h = c.if-t-a.true in sym (lt-leb (g.a + 2 * g.b) g.t (omega arith))
-
 pub returns : goal.returns
-returns c = let g = c.args in let h = c.if-t-a.false in half-leb g.a g.b g.t (omega arith)
+returns c =
+    let i : IsTrue c.contains.result ↔ ((c.power.result ≤ c.args.n) × (c.args.n ≤ room)) = search rules in
+    let e = c.power.ensures in
+    (λ t. let h = i.0 t in holds-room _ _ _ (omega arith) h.1, λ h. let k = holds-power _ _ _ h in let m = h.most in i.1 (omega arith, m))

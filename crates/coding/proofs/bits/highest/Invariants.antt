@@ -1,10 +1,6 @@
 -- What the loop of `coding::bits::highest` keeps true.
-use Rattle.std.proofs.Common.{◌-◌}
-use Rattle.loops_theory.proofs.Passing.{Rising}
+use Rattle.loops_theory.specs.Passing.{Highest}
 use Rattle.coding.proofs.bits.highest.Given as goal
 
-abbrev pub invariant-loop-i : goal.invariant-loop-i
-invariant-loop-i l = Rising l.word l.start l.n l.most l.i
-
-abbrev pub decreases-loop-i : goal.decreases-loop-i
-decreases-loop-i l = l.n - l.i
+abbrev pub invariant-loop-b : goal.invariant-loop-b
+invariant-loop-b l = Highest l.bytes 0 l.b-index l.most
