@@ -21,12 +21,14 @@ fn singles(first: &[u8], second: &[u8], out: &mut [u8])
     }
 }
 
-// Pairs.
+// Pairs: the first place of pair k has the index 2 k. They are counted, for a loop by `step_by(2)` tests its end
+// twice and does not become vector code.
 fn pairs(first: &[u8], second: &[u8], out: &mut [u8])
     requires { (length first.now ≡ length out.old) × (length second.now ≡ length out.old) × (length out.old % 2 ≡ 0) }
     ensures { SumsFour first.now second.now 0 (length out.old) out.new }
 {
-    for i in (0..out.len()).step_by(2) {
+    for k in 0..out.len() / 2 {
+        let i = 2 * k;
         let d = gray::digit(first[i], first[i + 1]);
         let e = gray::digit(second[i], second[i + 1]);
         let [b, c] = gray::places(d.wrapping_add(e) % 4);
@@ -35,7 +37,8 @@ fn pairs(first: &[u8], second: &[u8], out: &mut [u8])
     }
 }
 
-// Where the four parts of what is left of a word end.
+// Where the four parts of what is left of a word end: the binary places of the message, its pairs, the binary check
+// places and the check pairs.
 struct Ends {
     part: usize,
     message: usize,

@@ -17,14 +17,9 @@ pub fn digit(b: u8, c: u8) -> u8
     low
 }
 
-// The two places of a digit.
+// The two places of a digit: by comparisons, for the same reason.
 pub fn places(d: u8) -> [u8; 2]
     ensures { result ≡ gray d [] }
 {
-    match d {
-        0 => [0, 0],
-        1 => [0, 1],
-        2 => [1, 1],
-        _ => [1, 0],
-    }
+    [u8::from(2 <= d), u8::from(d == 1 || d == 2)]
 }

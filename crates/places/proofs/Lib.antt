@@ -1,1 +1,1 @@
-mod OtherPlace
+pub mod OtherPlace

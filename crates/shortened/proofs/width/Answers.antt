@@ -5,7 +5,6 @@ use Prim.Native.Nat.{ℕ, ◌-◌, ◌<◌}
 use native.Mathlib.Decide.{ℕ_discrete}
 use native.Mathlib.Omega.{arith}
 use lib.Dec.{leb}
-use Rattle.layout_theory.specs.Parameters.{places_of}
 use Rattle.layout_theory.specs.declared.Shape.{Shape}
 use Rattle.layout_theory.specs.Calls.{shape_for}
 use Rattle.words_theory.proofs.Shapes.{place-there, place-beyond}

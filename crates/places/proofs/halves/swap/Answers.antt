@@ -1,15 +1,11 @@
 -- `places::halves::swap` meets its contract. The invariant: the inverse is written over the first i bytes. Assumes nothing.
 use borrow.Author.Rules.{rules}
 use mathlib.Core.Path.{◌≡◌, sym, ap, ◌∙◌}
-use mathlib.Core.List.{◌++◌}
 use Prim.Native.Nat.{◌+◌, ◌-◌, ◌<◌, ◌≤◌}
 use native.Mathlib.Omega.{arith}
-use lib.ListN.{drop}
-use Rattle.group_theory.specs.Group.{moduli}
 use Rattle.layout_theory.specs.declared.Shape.{Shape}
 use Rattle.layout_theory.proofs.Parameters.{Sizes}
 use Rattle.words_theory.proofs.Shapes.{sizes}
-use Rattle.shortened_theory.specs.Code.{shortened_inverse}
 use Rattle.loops_theory.specs.Writing.{Cut}
 use Rattle.loops_theory.proofs.Writing.{write-none, write_step, write-end}
 use Rattle.loops_theory.proofs.Cuts.{length_cut, index_kept, byte_cut}

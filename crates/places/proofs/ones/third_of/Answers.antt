@@ -1,11 +1,11 @@
 -- `places::ones::third_of` meets its contract. Assumes nothing.
 use mathlib.Core.Path.{◌≡◌, sym, ap, ◌∙◌}
 use mathlib.Core.Logic.{◌⊎◌, inl, inr, ⊎_elim}
-use Prim.Native.Nat.{ℕ, suc, ◌-◌, ◌≤◌}
+use Prim.Native.Nat.{suc, ◌-◌}
 use native.Mathlib.Omega.{arith}
 use Rattle.layout_theory.specs.Calls.{place_for}
 use Rattle.loops_theory.proofs.Told.{two_syndrome, minus_place, told-place, told-third, told-other}
-use Rattle.places.proofs.OtherPlace.{Told, told-there}
+use Rattle.places.proofs.OtherPlace.{told-there}
 use Rattle.places.proofs.ones.third_of.Goals as goal
 use Rattle.places.proofs.ones.third_of.Goals.{After-other_half-k}
 

@@ -17,9 +17,6 @@ numbers c = sizes c.shape-h.result (cut c).code (cut c).some
 pub overflow_sub-h : goal.overflow_sub-h
 overflow_sub-h c = let z = numbers (goal.at.overflow_sub-h c).After-shape-h in search rules
 
-pub overflow_sub-message : goal.overflow_sub-message
-overflow_sub-message c = let k = cut (goal.at.overflow_sub-message c).After-shape-h in let z = k.stays in search rules
-
 pub overflow_add-result : goal.overflow_add-result
 overflow_add-result c = let z = numbers (goal.at.overflow_add-result c).After-shape-h in search rules
 
