@@ -15,7 +15,7 @@ use Rattle.coder_theory.specs.Reasons.{Reason, first_reason, left_out, not_asked
 use Rattle.coder_theory.specs.Calls.{answer_of, word_reasons, ask_reasons, ask_answer, commit_reasons, commit_answer, commit_output}
 use Rattle.coder_theory.specs.declared.Record.{Record}
 use Rattle.coder_theory.specs.declared.Answer.{Answer}
-use Rattle.coder_theory.proofs.Firsts.{NoneApplies, first-yes, first-no, first-end, first-before, first_past, none_first, none-append, accepted-none, no_place}
+use Rattle.coder_theory.proofs.Firsts.{NoneApplies, first-yes, first-no, first-end, first-before, first_past, none_first, none-append, accepted-none}
 use Rattle.coder_theory.proofs.States.{true-usable}
 use Rattle.coder_theory.proofs.Outcomes.{if-accepted, if-refused, word-by, by-pick}
 use Rattle.coder_theory.proofs.Corrections.{left_false, plain-fault, place_of}
@@ -148,31 +148,34 @@ module _ (rec : Record) (p : ℕ) (w : List ℕ) (a : Answer) (e : a ≡ ask_ans
         rw f (sym (if-refused _ _ _ k)),
       )
 
-  module _ (h : a.refusal ≡ 0) (x : ℕ) (i : x ≡ (first_reason (not_asked p a.place ∷ full rec ∷ [])).number) where
+  module _ (h : a.refusal ≡ 0) (x : Answer) (i : x ≡ answer_of (first_reason (not_asked p a.place ∷ full rec ∷ []))) where
     after : first_reason (commit_reasons rec p w) ≡ first_reason (claims rec p w)
     after = commit-past rec p w (accepted-none (ask_reasons rec w) refl (sym asked-number ∙ h))
 
-    by-claims : x ≡ (first_reason (claims rec p w)).number
-    by-claims = i ∙ ap (λ (b : Answer). (first_reason (not_asked p b.place ∷ full rec ∷ [])).number) e
+    by-claims : x ≡ answer_of (first_reason (claims rec p w))
+    by-claims = i ∙ ap (λ (b : Answer). answer_of (first_reason (not_asked p b.place ∷ full rec ∷ []))) e
 
-    pub commit-stopped : x ≢ 0
-        → (record { refusal = x; place = 0; «record» = rec } ≡ commit_answer rec p w) × (w ≡ commit_output rec p w)
+    claims-number : x.refusal ≡ (first_reason (claims rec p w)).number
+    claims-number = ap (λ (y : Answer). y.refusal) by-claims
+
+    pub commit-stopped : x.refusal ≢ 0
+        → (record { refusal = x.refusal; place = x.place; «record» = rec } ≡ commit_answer rec p w) × (w ≡ commit_output rec p w)
     unfolding commit_answer commit_output
     commit-stopped n =
-        let k : (first_reason (claims rec p w)).number ≢ 0 = λ z. n (by-claims ∙ z) in (
-          rw (after, if-refused _ _ _ k, if-refused _ _ _ k, ← by-claims, no_place (claims rec p w) (refl, (refl, tt))),
+        let k : (first_reason (claims rec p w)).number ≢ 0 = λ z. n (claims-number ∙ z) in (
+          rw (after, if-refused _ _ _ k, if-refused _ _ _ k, by-claims),
           rw after (sym (if-refused _ _ _ k)),
         )
 
-    module _ (n : x ≡ 0) where
+    module _ (n : x.refusal ≡ 0) where
       z : (first_reason (commit_reasons rec p w)).number ≡ 0
-      z = ap (λ (y : Reason). y.number) after ∙ sym by-claims ∙ n
+      z = ap (λ (y : Reason). y.number) after ∙ sym claims-number ∙ n
 
-      pub commit-ready : Usable rec × (rec.words ≢ full_count)
-      unfolding commit_answer
-      commit-ready = let c = commit-accepted rec p w z in (c.0, c.2)
-
-      pub commit-changed : (new : List ℕ) → new ≡ flip p w → (next : Record) → next ≡ counted rec p
-          → (record { refusal = x; place = p; «record» = next } ≡ commit_answer rec p w) × (new ≡ commit_output rec p w)
+      -- it is counted, and its word flipped
+      pub commit-changed : (record { refusal = 0; place = p; «record» = counted rec p } ≡ commit_answer rec p w) × (flip p w ≡ commit_output rec p w)
       unfolding commit_answer commit_output
-      commit-changed new c next k = (rw (z, n, k), rw z c)
+      commit-changed = (rw z, rw z)
+
+-- what an accepted commit knows before it counts
+pub commit-counts : (rec : Record) (p : ℕ) (w : List ℕ) → (commit_answer rec p w).refusal ≡ 0 → Usable rec × (rec.words ≢ full_count)
+commit-counts rec p w e = let c = commit-accepted rec p w e in (c.0, c.2)

@@ -4,7 +4,7 @@
 use mathlib.Core.Path.{◌≡◌, refl, sym, ap, ◌∙◌}
 use mathlib.Core.Bool.{Bool, true, false, ◌&&◌, not}
 use mathlib.Core.List.{List, [], ◌∷◌}
-use Prim.Native.Nat.{ℕ, ◌^◌, ◌≤◌, ◌<◌}
+use Prim.Native.Nat.{ℕ, ◌+◌, ◌^◌, ◌≤◌, ◌<◌}
 use native.Mathlib.Decide.{ℕ_discrete}
 use native.Mathlib.Omega.{arith}
 use lib.Dec.{ltb}
@@ -35,6 +35,14 @@ pub places-bound : (rec : Record) → Usable rec → places_in rec < 2 ^ longest
 unfolding places_in
 places-bound rec f =
     let q : 2 ^ rec.t ≤ 2 ^ longest = pow_mono {i = rec.t} {j = longest} f.fit.admitted.most in
+    omega arith
+
+-- so its number before renumbering is small too
+pub old-bound : (rec : Record) (p : ℕ) → Usable rec → p ≤ places_in rec → p + rec.s < 2 ^ longest
+unfolding places_in
+old-bound rec p f h =
+    let q : 2 ^ rec.t ≤ 2 ^ longest = pow_mono {i = rec.t} {j = longest} f.fit.admitted.most in
+    let st = f.allowed.stays in
     omega arith
 
 pub word-length-bound : (rec : Record) → word_length rec < 2 ^ longest

@@ -23,7 +23,7 @@ use Rattle.coder_theory.specs.Reasons.{Reason, first_reason, left_out, full}
 use Rattle.coder_theory.specs.Calls.{answer_of, write_reasons, correct_reasons, correct_answer, correct_output}
 use Rattle.coder_theory.specs.declared.Record.{Record}
 use Rattle.coder_theory.specs.declared.Answer.{Answer}
-use Rattle.coder_theory.proofs.Firsts.{NoneApplies, first-before, first_past, accepted-none, no_place}
+use Rattle.coder_theory.proofs.Firsts.{NoneApplies, first-before, first_past, accepted-none}
 use Rattle.coder_theory.proofs.States.{true-usable, code_in, filled_in}
 use Rattle.coder_theory.proofs.Outcomes.{if-refused, word-by, fitted}
 use Rattle.coder_theory.proofs.Outputs.{kept}
@@ -126,8 +126,8 @@ module _ (rec : Record) (w out : List ℕ) (a : Answer) (e : a ≡ answer_of (fi
         rw f (kept rec before out a e (corrected_in rec w) h),
       )
 
-  module _ (h : a.refusal ≡ 0) (q : ℕ) (g : q ≡ shortened_fault_for rec.t rec.r rec.s w) (x : ℕ)
-      (i : x ≡ (first_reason (left_out rec.s q ∷ full rec ∷ [])).number) where
+  module _ (h : a.refusal ≡ 0) (q : ℕ) (g : q ≡ shortened_fault_for rec.t rec.r rec.s w) (x : Answer)
+      (i : x ≡ answer_of (first_reason (left_out rec.s q ∷ full rec ∷ []))) where
     ready : Usable rec × Word (places_in rec) w × (places_in rec ≤ length out)
     ready = written-accepted rec w (length out) (sym corrected-by ∙ h)
 
@@ -137,35 +137,41 @@ module _ (rec : Record) (w out : List ℕ) (a : Answer) (e : a ≡ answer_of (fi
     past : first_reason (correct_reasons rec w (length out)) ≡ first_reason last
     past = first_past before last (accepted-none before refl (sym corrected-by ∙ h))
 
-    number_by : x ≡ (first_reason last).number
-    number_by = i ∙ ap (λ (p : ℕ). (first_reason (left_out rec.s p ∷ full rec ∷ [])).number) whole
+    by-last : x ≡ answer_of (first_reason last)
+    by-last = i ∙ ap (λ (p : ℕ). answer_of (first_reason (left_out rec.s p ∷ full rec ∷ []))) whole
 
-    pub correct-stopped : x ≢ 0
-        → (record { refusal = x; place = 0; «record» = rec } ≡ correct_answer rec w out) × (out ≡ correct_output rec w out)
+    number_by : x.refusal ≡ (first_reason last).number
+    number_by = ap (λ (y : Answer). y.refusal) by-last
+
+    pub correct-stopped : x.refusal ≢ 0
+        → (record { refusal = x.refusal; place = x.place; «record» = rec } ≡ correct_answer rec w out) × (out ≡ correct_output rec w out)
     unfolding correct_answer correct_output
     correct-stopped n =
         let k : (first_reason last).number ≢ 0 = λ z. n (number_by ∙ z) in (
-          rw (past, if-refused _ _ _ k, if-refused _ _ _ k, ← number_by, no_place last (refl, (refl, tt))),
+          rw (past, if-refused _ _ _ k, if-refused _ _ _ k, by-last),
           rw past (sym (if-refused _ _ _ k)),
         )
 
-    module _ (n : x ≡ 0) where
+    module _ (n : x.refusal ≡ 0) where
       none : NoneApplies last
       none = accepted-none last refl (sym number_by ∙ n)
 
       pub correct-ready : Usable rec × (rec.words ≢ full_count)
       correct-ready = (ready.0, eqb-false rec.words full_count none.1.0)
 
-      pub correct-changed : (p : ℕ) → p ≡ q - rec.s → (f : List ℕ) → f ≡ flip_for w p out → (next : Record) → next ≡ counted rec p
-          → (record { refusal = x; place = p; «record» = next } ≡ correct_answer rec w out) × (f ≡ correct_output rec w out)
+      -- it is counted, and written with its place flipped
+      pub correct-changed : (p : ℕ) → p ≡ q - rec.s → (f : List ℕ) → f ≡ flip_for w p out
+          → (record { refusal = 0; place = p; «record» = counted rec p } ≡ correct_answer rec w out) × (f ≡ correct_output rec w out)
       unfolding correct_answer correct_output
-      correct-changed p d f c next k =
+      correct-changed p d f c =
           let z : (first_reason last).number ≡ 0 = sym number_by ∙ n in
-          let u : p ≡ corrected_place_in rec w = place_in d in (
-            rw (past, z, n, k, u),
+          let u : p ≡ corrected_place_in rec w = place_of rec w q whole d in (
+            rw (past, z, u),
             rw (past, z)
                 (c ∙ ap (λ (i : ℕ). flip_for w i out) u ∙ plain-flip rec w out ready.0 ready.1 ready.2 (left_false rec.s (corrected_old_place_in rec w) none.0)),
           )
-        where
-          place_in : {p : ℕ} → p ≡ q - rec.s → p ≡ corrected_place_in rec w
-          place_in d = place_of rec w q whole d
+
+-- what an accepted one knows before it counts
+pub correct-counts : (rec : Record) (w out : List ℕ) → (correct_answer rec w out).refusal ≡ 0 → Usable rec × (rec.words ≢ full_count)
+unfolding correct_answer
+correct-counts rec w out e = let c = correct-accepted rec w out e in (c.0, c.3)

@@ -22,7 +22,7 @@ use Rattle.shortened_theory.specs.Calls.{Fits, shortened_syndrome_for, is_shorte
 use Rattle.shortened_theory.proofs.Guards.{both-allowed, fits_word_lem}
 use Rattle.coder_theory.specs.State.{Usable, places_in, message_in, syndrome_in, number_in, is_codeword_in, third_in, third_old_place_in}
 use Rattle.coder_theory.specs.Reasons.{Reason, first_reason, left_out, outside, wrong_length, short_output, bad_place, bad_byte}
-use Rattle.coder_theory.specs.Calls.{if_accepted, state_reasons, word_length, message_length, word_reasons, answer_of, syndrome_answer, codeword_answer, shown, write_reasons}
+use Rattle.coder_theory.specs.Calls.{if_accepted, state_reasons, layout_reasons, word_length, message_length, word_reasons, answer_of, syndrome_answer, codeword_answer, shown, write_reasons}
 use Rattle.coder_theory.specs.Calls.{places_reasons, third_reasons, third_answer}
 use Rattle.coder_theory.specs.declared.Record.{Record}
 use Rattle.coder_theory.specs.declared.Size.{Size}
@@ -149,6 +149,12 @@ inside-by rec p h =
     positive : (p : ℕ) → (p ≡ 0 → ⊥) → 1 ≤ p
     positive zero z = absurd (z refl)
     positive (suc p) z = omega arith
+
+pub layout-accepted : (rec : Record) (p : ℕ) → (first_reason (layout_reasons rec p)).number ≡ 0 → Usable rec × (1 ≤ p) × (p ≤ places_in rec)
+layout-accepted rec p e =
+    let h = accepted-none (layout_reasons rec p) refl e in
+    let l = inside-by rec p h.1.1.1.0 in
+    (true-usable rec h.1.0 h.1.1.0, l.0, l.1)
 
 inside : (rec : Record) (p : ℕ) → (outside rec p).applies ≡ false → is_shortened_place rec.t rec.s p ≡ true
 unfolding places_in

@@ -2,11 +2,12 @@
 -- proofs cite. Assumes nothing.
 use mathlib.Core.Path.{◌≡◌, refl, sym, ap, ◌∙◌}
 use mathlib.Core.Logic.{◌≢◌}
-use mathlib.Core.Bool.{Bool, true, false}
+use mathlib.Core.Bool.{Bool, true, false, not}
 use mathlib.Core.List.{List, [], ◌∷◌, ◌++◌}
 use Prim.Native.Nat.{ℕ, ◌-◌, ◌≤◌}
+use native.Mathlib.Decide.{ℕ_discrete}
 use native.Mathlib.Omega.{arith}
-use borrow.Author.Tests.{le-leb, ltb-false, ne_eqb, eqb-true, not-false}
+use borrow.Author.Tests.{le-leb, ltb-false, eq-eqb, ne_eqb, eqb-true, not-false}
 use lib.Dec.{eqb}
 use lib.ListN.{length, drop}
 use Rattle.layout_theory.specs.Parameters.{places_of, message_of}
@@ -14,12 +15,12 @@ use Rattle.words_theory.specs.Calls.{bad_from}
 use Rattle.shortened_theory.specs.Calls.{Fits, fits_encoding, encode_bad_for, shortened_encode_for, shortened_combine_for, shortened_invert_for}
 use Rattle.shortened_theory.proofs.Guards.{fits_word_lem, fits-message}
 use Rattle.coder_theory.specs.State.{Usable, places_in, message_in, encoded_in, combine_in, inverse_in}
-use Rattle.coder_theory.specs.Reasons.{Reason, first_reason, wrong_length, short_output, bad_place}
+use Rattle.coder_theory.specs.Reasons.{Reason, first_reason, wrong_length, short_output, bad_place, bad_byte}
 use Rattle.coder_theory.specs.Calls.{answer_of, state_reasons, output_of, encode_reasons, encode_answer, encode_output, invert_reasons, invert_answer, invert_output}
 use Rattle.coder_theory.specs.Calls.{combine_reasons, combine_answer, combine_output}
 use Rattle.coder_theory.specs.declared.Record.{Record}
 use Rattle.coder_theory.specs.declared.Answer.{Answer}
-use Rattle.coder_theory.proofs.Firsts.{accepted-none}
+use Rattle.coder_theory.proofs.Firsts.{first-yes, first-no, first-end, first_past, accepted-none}
 use Rattle.coder_theory.proofs.States.{true-usable}
 use Rattle.coder_theory.proofs.Outcomes.{if-refused, right-length, fitted, write-accepted}
 
@@ -99,6 +100,23 @@ pub message-ready : (rec : Record) (m out : List ℕ) → (first_reason (state_r
 message-ready rec m out e =
     let h = accepted-none (state_reasons rec ++ (wrong_length (message_in rec) m ∷ short_output (places_in rec) (length out) ∷ [])) refl e in
     plain-bad rec m out (true-usable rec h.1.0 h.1.1.0) (right-length (message_in rec) m h.1.1.1.0) (ltb-false (length out) (places_in rec) h.1.1.1.1.0)
+
+-- the output of a message that they let pass
+pub encode-bytes : (rec : Record) (m out : List ℕ) → (first_reason (state_reasons rec ++ (wrong_length (message_in rec) m ∷ short_output (places_in rec) (length out) ∷ []))).number ≡ 0
+    → shortened_encode_for rec.t rec.r rec.s m out ≡ encode_output rec m out
+unfolding encode_answer
+encode-bytes rec m out z = go (ℕ_discrete (bad_place m) 0)
+  where
+    past : first_reason (encode_reasons rec m (length out)) ≡ first_reason (bad_byte m ∷ [])
+    past = first_past (state_reasons rec ++ (wrong_length (message_in rec) m ∷ short_output (places_in rec) (length out) ∷ [])) (bad_byte m ∷ []) (accepted-none _ refl z)
+
+    go : Dec (bad_place m ≡ 0) → shortened_encode_for rec.t rec.r rec.s m out ≡ encode_output rec m out
+    go (yes e) =
+        encode-wrote rec m out (encode_answer rec m out) refl (ap (λ (x : Reason). x.number) (past ∙ first-no (bad_byte m) [] (ap not (eq-eqb _ 0 e)) ∙ first-end))
+    go (no h) =
+        let n : (first_reason (encode_reasons rec m (length out))).number ≡ 4 = ap (λ (x : Reason). x.number) (past ∙ first-yes (bad_byte m) [] (ap not (ne_eqb _ 0 h))) in
+        bad-kept rec.t rec.r rec.s m out (λ y. h (sym (message-ready rec m out z) ∙ y))
+        ∙ encode-kept rec m out (encode_answer rec m out) refl (λ y. let k : 4 ≡ 0 = sym n ∙ y in omega arith)
 
 -- ---- two words
 pub combine-accepted : (rec : Record) (x y out : List ℕ) → (first_reason (combine_reasons rec x y (length out))).number ≡ 0

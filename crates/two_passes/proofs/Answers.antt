@@ -1,24 +1,43 @@
 -- What the functions on words answer, by their tests: those of a whole code, and the place at fault of one that may be shortened. Assumes nothing.
-use mathlib.Core.Path.{◌≡◌, refl, sym, ap, subst, ◌∙◌}
+use mathlib.Core.Path.{◌≡◌, refl, sym, ap, ap₂, subst, ◌∙◌}
+use mathlib.Core.Logic.{◌≢◌}
 use mathlib.Core.Bool.{Bool, true, false, and-false}
-use mathlib.Core.List.{List}
-use Prim.Native.Nat.{ℕ, ◌<◌, ◌≤◌}
+use mathlib.Core.List.{List, [], ◌∷◌, ◌++◌}
+use Prim.Native.Nat.{ℕ, zero, suc, ◌+◌, ◌-◌, ◌^◌, ◌<◌, ◌≤◌}
 use native.Mathlib.Omega.{arith}
 use borrow.Author.Tests.{le-leb, lt-leb}
-use lib.ListN.{length}
-use Rattle.group_theory.specs.Group.{moduli, zeros}
+use borrow.Rule.Slice.PartMut.{put_mid}
+use lib.ListN.{length, take, get_or, length-replicate}
+use lib.Pow.{pow_mono}
+use Rattle.std.proofs.lemmas.List.{take-replicate}
+use Rattle.std.proofs.lemmas.Slice.{take-put_mid}
+use Rattle.group_theory.specs.Group.{Modulus, moduli}
+use Rattle.layout_theory.specs.Layout.{slots}
+use Rattle.words_theory.specs.Halves.{other_at}
+use Rattle.words_theory.proofs.Shapes.{other-within}
+use Rattle.places.specs.OtherHalf.{other_half_for}
 use Rattle.layout_theory.specs.Choice.{zero_unless}
 use Rattle.layout_theory.specs.Parameters.{admits, places_of, moduli_for}
 use Rattle.layout_theory.specs.Calls.{shape_for}
 use Rattle.layout_theory.specs.declared.Shape.{Shape}
-use Rattle.layout_theory.proofs.Parameters.{admits-admitted, admitted-admits, below_power, Known, zeros-for}
-use Rattle.words_theory.specs.Syndrome.{syndrome}
-use Rattle.words_theory.specs.Calls.{fault}
+use Rattle.layout_theory.proofs.Parameters.{admits-admitted, admitted-admits, below_power, Known, known, moduli-known}
+use Rattle.words_theory.specs.Words.{zero_word}
+use Rattle.words_theory.specs.Calls.{fault, bad_from}
+use Rattle.words_theory.proofs.Bad.{bad-found}
+use Rattle.loops_theory.proofs.Passing.{bits-zero, bad-begin}
 use Rattle.shortened_theory.specs.Code.{fill}
 use Rattle.shortened_theory.specs.Calls.{Fits, fits_word, shortened_fault_for}
 use Rattle.shortened_theory.proofs.Filling.{length-fill}
 use Rattle.shortened_theory.proofs.Guards.{word_fits}
-use Rattle.two_passes.specs.Calls.{is_long, syndrome_for, fault_for}
+use Rattle.coder_theory.specs.declared.Record.{Record}
+use Rattle.coder_theory.specs.State.{places_in}
+use Rattle.coder_theory.specs.Reasons.{first_reason, bad_byte, wrong_length, short_output}
+use Rattle.coder_theory.specs.Calls.{answer_of, state_reasons}
+use Rattle.coder_theory.proofs.Firsts.{first-no, first-end, accepted-none}
+use Rattle.coder_theory.proofs.Bounds.{places-bound}
+use Rattle.coder_theory.proofs.States.{true-usable}
+use Rattle.coder_theory.proofs.Outcomes.{byte-bad, byte-good, right-length}
+use Rattle.two_passes.specs.Calls.{is_long, fault_for}
 
 -- ---- the test of t and r and of a word's length
 -- a shape with no place is that of parameters that are not admitted
@@ -45,19 +64,6 @@ module _ (t r : ℕ) (w : List ℕ) (s : Shape) where
   long-whole : Known t r s → s.places ≤ length w → is_long t r w ≡ true
   long-whole k h =
       rw (admitted-admits t r k.admitted, le-leb (places_of t) (length w) (subst (λ (n : ℕ). n ≤ length w) k.places h))
-
-  -- ---- the syndrome
-  pub syndrome-none : s ≡ shape_for t r → s.places ≡ 0 → zeros (moduli s.a s.b) ≡ syndrome_for t r w
-  unfolding syndrome_for
-  syndrome-none e z = rw (long-none e z) (zeros-for s.a s.b _ _)
-
-  pub syndrome-short : Known t r s → length w < s.places → zeros (moduli s.a s.b) ≡ syndrome_for t r w
-  unfolding syndrome_for
-  syndrome-short k h = rw (long-short k h) (zeros-for s.a s.b _ _)
-
-  pub syndrome-long : Known t r s → s.places ≤ length w → syndrome (moduli_for t r) w ≡ syndrome_for t r w
-  unfolding syndrome_for
-  syndrome-long k h = rw (long-whole k h)
 
   -- ---- the place at fault
   pub fault-none : s ≡ shape_for t r → s.places ≡ 0 → 0 ≡ fault_for t r w
@@ -93,3 +99,53 @@ module _ (t r s : ℕ) (w : List ℕ) where
     pub shorter-whole : s ≡ 0 → fault_for t r w ≡ shortened_fault_for t r s w
     shorter-whole e =
         ap (λ (k : ℕ). fault_for t r (fill k w)) (sym e) ∙ fault-filled t r s w (word_fits t r s (length w) y) ∙ shorter-filled
+
+-- ---- an array for a word of the whole code
+pub places-within : (t k : ℕ) → t ≤ k → places_of t ≤ 2 ^ k
+places-within t k h = let q : 2 ^ t ≤ 2 ^ k = pow_mono {i = t} {j = k} h in omega arith
+
+-- a word put behind the first s of n zeros
+pub filled-word : (s n k : ℕ) (w y : List ℕ) → y ≡ w → s + length w ≤ n → take (s + length w) (put_mid s k (zero_word n) y) ≡ fill s w
+filled-word s n k w y e h =
+    let l = length-replicate {A = ℕ} n 0 in
+    let m : length y ≡ length w = ap length e in
+    take-put_mid s k (zero_word n) y (s + length w) (omega arith) (omega arith) ∙ ap₂ (λ (t u : List ℕ). t ++ u) (take-replicate s n 0 (omega arith)) e
+
+-- ---- the other half q of a place p
+pub record Other (s : Shape) (p q : ℕ) : Type 0 where
+  pub place : p ≤ s.places
+  pub some : 1 ≤ q
+  pub most : q ≤ s.places
+  pub index : q - 1 ≡ other_at (slots (moduli s.a s.b)) (p - 1)
+
+pub other-told : (t r : ℕ) (s : Shape) → s ≡ shape_for t r → (p q : ℕ) → p ≢ 0 → p ≤ s.places → q ≡ other_half_for t r p → Other s p q
+unfolding other_half_for
+other-told t r s o zero q n h e = absurd (n refl)
+other-told t r s o (suc i) q n h e =
+    let k = known t r s o (omega arith) in
+    let m = moduli-known t r s k in
+    let x : suc i - 1 ≡ i = omega arith in
+    let y = other-within s (t, r, o) (omega arith) i (omega arith) in
+    let z : q ≡ suc (other_at (slots (moduli s.a s.b)) i) =
+    e ∙ rw (admitted-admits t r k.admitted, le-leb 1 (suc i) (omega arith), le-leb (suc i) (places_of t) (omega (arith, k.places))) (ap (λ (ms : List Modulus). suc (other_at (slots ms) i)) (sym m)) in
+    record { place = h; some = omega arith; most = omega arith; index = rw x (omega arith) }
+
+-- ---- bytes above 1
+pub no-bad : (w : List ℕ) → ((k : ℕ) → k < length w → get_or w k 0 ≤ 1) → record { refusal = 0; place = 0 } ≡ answer_of (first_reason (bad_byte w ∷ []))
+no-bad w f = sym (ap answer_of (first-no (bad_byte w) [] (byte-good w 0 (sym (bits-zero w (λ k a l. f k l))) refl) ∙ first-end))
+
+pub first-bad : (w : List ℕ) (i : ℕ) → i < length w → 1 < get_or w i 0 → ((k : ℕ) → k < i → get_or w k 0 ≤ 1)
+    → record { refusal = 4; place = i + 1 } ≡ answer_of (first_reason (bad_byte w ∷ []))
+first-bad w i h a f =
+    let e : i + 1 ≡ bad_from 1 w = sym (bad-found w i h a) ∙ bad-begin w i (omega arith) (λ k b l. f k l) in
+    byte-bad w (i + 1) e (omega arith) []
+
+-- a word that was found to be of its length
+pub few-places : (rec : Record) (w : List ℕ) (room : ℕ)
+    → (first_reason (state_reasons rec ++ (wrong_length (places_in rec) w ∷ short_output (places_in rec) room ∷ []))).number ≡ 0
+    → length w < 4294967296
+few-places rec w room e =
+    let h = accepted-none (state_reasons rec ++ (wrong_length (places_in rec) w ∷ short_output (places_in rec) room ∷ [])) refl e in
+    let l = right-length (places_in rec) w h.1.1.1.0 in
+    let b = places-bound rec (true-usable rec h.1.0 h.1.1.0) in
+    omega arith

@@ -1,4 +1,3 @@
--- Answers (the functions by their tests), Filled (a word put behind zeros), Segments (the weights of pairs, and room for them).
+-- Answers (the functions by their tests), Segments (the weights of a message, segment by segment).
 mod Answers
-mod Filled
 mod Segments

@@ -1,31 +1,27 @@
 // The check part: its digits are the components of an element, a byte for each binary one and two for
-// each quaternary one. `read` is called with a word that has them all.
-ghost use Rattle.std.specs.Prelude.{◌≡◌, ◌+◌, ◌*◌, ◌≤◌, length, drop};
+// each quaternary one.
+ghost use Rattle.std.specs.Prelude.{◌≡◌, ◌+◌, ◌*◌, ◌≤◌, length};
 ghost use Rattle.group_theory.specs.Group.{moduli};
 ghost use Rattle.layout_theory.specs.Layout.{units};
 ghost use Rattle.words_theory.specs.Syndrome.{syndrome_over};
 
-use group::Element;
+use group::{Element, Moduli};
 
-// The sum of the check places from an index of the word on: the element with these digits.
-pub(crate) fn read(a: usize, b: usize, word: &[u8], start: usize) -> Element
-    requires { (a + b ≤ 12) × (start + (a + 2 * b) ≤ length word.now) }
-    ensures { result ≡ syndrome_over (moduli a b) (units (moduli a b)) (drop start word.now) }
+// The sum of the check places: the element with these digits.
+pub(crate) fn read(m: Moduli, check: &[u8]) -> Element
+    requires { (m.a + m.b ≤ 12) × (m.a + 2 * m.b ≤ length check.now) }
+    ensures { result ≡ syndrome_over (moduli m.a m.b) (units (moduli m.a m.b)) check.now }
 {
     let mut e = [0u8; 12];
-    let mut at = start;
-    let mut i: usize = 0;
-    while i < 12 {
-        if i < a {
-            e[i] = word[at] % 2;
+    let mut at: usize = 0;
+    for i in 0..m.a + m.b {
+        if i < m.a {
+            e[i] = check[at] % 2;
             at += 1;
-        } else if i - a < b {
-            e[i] = gray::digit(word[at], word[at + 1]);
-            at += 2;
         } else {
-            e[i] = 0;
+            e[i] = gray::digit(check[at], check[at + 1]);
+            at += 2;
         }
-        i += 1;
     }
     e
 }

@@ -1,27 +1,25 @@
 // Correction as it was before request C-14: one pass over the word for bytes above 1, another for the
 // syndrome. Only the benchmark uses it, which times it beside `coder::correct`. Every input is answered,
-// and the contract is that of `coder::correct`. What is wrong with a call is found by crate checks and
-// bytes.rt; shorter.rt finds the place at fault, by whole.rt and what is named there; the flip is crate coding's;
-// count.rt counts.
+// and the contract is that of `coder::correct`. What is wrong with a call is found by crate checks, and in the bytes
+// by bytes.rt; shorter.rt finds the place at fault, by whole.rt and what is named there; the flip is crate coding's, and
+// crate checks counts. Bytes, syndrome and filling stand here in their own text, though crate coding has the like:
+// they are what is measured.
 #![tactic(auto)]
 
 mod bytes;
 mod check_part;
-mod count;
 mod fill;
-mod halves;
 mod place;
-mod rooms;
 mod shorter;
 mod weights;
 mod whole;
 
 ghost use Rattle.std.specs.Prelude.{◌≡◌};
-ghost use Rattle.shortened_theory.specs.Code.{new_place};
-ghost use Rattle.shortened_theory.specs.Calls.{shortened_fault_for};
 ghost use Rattle.coder_theory.specs.Calls.{correct_answer, correct_output};
+ghost use Rattle.two_passes.specs.Calls.{counted_answer};
 
-use checks::check;
+use checks::refusal::Refusal;
+use checks::{check, count, fit};
 pub use coder_theory::{Corrected, Record};
 
 // The codeword that differs from a word in at most one place, at the front of `out`, and that place.
@@ -30,50 +28,29 @@ pub fn correct(record: Record, word: &[u8], out: &mut [u8]) -> Corrected
     ensures answer { result ≡ correct_answer «record» word.now out.old }
     ensures bytes { out.new ≡ correct_output «record» word.now out.old }
 {
-    let a = bytes::written(record, word, out.len());
-    let refusal = a.refusal;
-    if refusal != 0 {
-        return Corrected {
-            refusal,
-            place: a.place,
+    match corrected(record, word, out) {
+        Ok(place) => Corrected {
+            refusal: 0,
+            place,
+            record: count::counted(record, place),
+        },
+        Err(x) => Corrected {
+            refusal: x.number(),
+            place: x.place(),
             record,
-        };
+        },
     }
-    let q = fault(record, word);
-    let x = check::correction(record, q);
-    if x != 0 {
-        return Corrected {
-            refusal: x,
-            place: 0,
-            record,
-        };
-    }
-    let p = new_place(record, q);
+}
+
+// Writes the codeword, and answers the place that was flipped.
+fn corrected(record: Record, word: &[u8], out: &mut [u8]) -> Result<u32, Refusal>
+    ensures answer { counted_answer «record» result ≡ correct_answer «record» word.now out.old }
+    ensures bytes { out.new ≡ correct_output «record» word.now out.old }
+{
+    bytes::written(record, word, out.len())?;
+    let q = shorter::fault(fit::code(record), word);
+    check::correction(record, q)?;
+    let p = q.saturating_sub(record.s);
     coding::flip(word, p, out);
-    Corrected {
-        refusal: x,
-        place: p,
-        record: count::counted(record, p),
-    }
-}
-
-// The place at fault in a word of the record's code, by its number before renumbering.
-fn fault(record: Record, word: &[u8]) -> u32
-    ensures { result ≡ shortened_fault_for «record».t «record».r «record».s word.now }
-{
-    let t = record.t;
-    let r = record.r;
-    let s = record.s;
-    shorter::fault(t, r, s, word)
-}
-
-// A place, renumbered.
-fn new_place(record: Record, place: u32) -> u32
-    ensures { result ≡ new_place «record».s place }
-{
-    let s = record.s;
-    if place < s {
-        return 0;
-    }
-    place - s
+    Ok(p)
 }

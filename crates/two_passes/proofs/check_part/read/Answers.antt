@@ -1,19 +1,18 @@
 -- `two_passes::check_part::read` meets its contract: each turn reads one component. Assumes nothing.
-use Rattle.loops_theory.proofs.Checking.{seen_start, seen_end, seen-two, seen-four, seen_one}
+use native.Mathlib.Omega.{arith}
+use Prim.Native.Nat.{◌<◌}
+use Rattle.loops_theory.proofs.Checking.{seen-two, seen-four, seen-rest, unread-step}
 use Rattle.two_passes.proofs.check_part.read.Goals as goal
-use Rattle.two_passes.proofs.check_part.read.Goals.{then-i-a, else-i-a+then-i-a-2, else-i-a+else-i-a-2}
-
-pub loop-i-init : goal.loop-i-init
-loop-i-init c = seen_start _ _ _ _
+use Rattle.two_passes.proofs.check_part.read.Goals.{then-i-m, else-i-m}
 
 pub loop-i-preserved : goal.loop-i-preserved
 loop-i-preserved c =
-    let h = c.loop-i-test.true in
-    elim c.if-i-a.branch [
-      | then-i-a w ↦ rw (w.e-is, w.at-is) (seen-two _ _ _ _ _ _ _ c.loop-i.invariant h w.if-i-a.true)
-      | else-i-a+then-i-a-2 w ↦ rw (w.e-is, w.at-is, w.digit.ensures) (seen-four _ _ _ _ _ _ _ c.loop-i.invariant h w.if-i-a.false w.if-i-a-2.true)
-      | else-i-a+else-i-a-2 w ↦ rw (w.e-is, w.at-is) (seen_one _ _ _ _ _ _ _ c.loop-i.invariant h w.if-i-a.false w.if-i-a-2.false)
+    let v = c.loop-i.invariant in
+    let h : c.loop-i.i < 12 = omega arith in
+    elim c.if-i-m.branch [
+      | then-i-m w ↦ rw (w.e-is, w.at-is) (record { seen = seen-two _ _ _ _ _ _ _ v.seen h w.if-i-m.true; unread = unread-step _ _ _ v.unread })
+      | else-i-m w ↦ rw (w.e-is, w.at-is, w.digit.ensures) (record { seen = seen-four _ _ _ _ _ _ _ v.seen h w.if-i-m.false (omega arith); unread = unread-step _ _ _ v.unread })
     ]
 
 pub returns : goal.returns
-returns c = seen_end _ _ _ _ _ _ _ c.loop-i.invariant c.loop-i-test.false
+returns c = let v = c.loop-i.invariant in seen-rest _ _ _ _ _ _ _ v.seen v.unread c.loop-i-test.false

@@ -1,15 +1,13 @@
--- `two_passes::fill::fault` meets its contract. Assumes nothing.
-use mathlib.Core.Path.{ap, ◌∙◌}
+-- `two_passes::fill::fault` meets its contract: each array has room for a word of the codes that it is taken for. Assumes nothing.
+use Rattle.two_passes.proofs.Answers.{places-within}
 use native.Mathlib.Omega.{arith}
-use Rattle.two_passes.specs.Calls.{fault_for}
-use Rattle.two_passes.proofs.Answers.{fault-filled}
-use Rattle.two_passes.proofs.Filled.{fewer-blank}
 use Rattle.two_passes.proofs.fill.fault.Goals as goal
 
-pub put-requires : goal.put-requires
-put-requires c = let p = c.requires in fewer-blank p.1 (let a = p.0.all in omega arith)
+pub filled-requires : goal.filled-requires
+filled-requires c = (c.requires, places-within _ 6 c.if-code-le6.true, omega arith)
 
-pub returns : goal.returns
-returns c =
-    let b = c.before.before.before.before in
-    c.whole_fault.ensures ∙ ap (fault_for b.args.t b.args.r) c.put.ensures ∙ fault-filled _ _ _ _ b.requires.0
+pub filled-requires-then-code-le10 : goal.filled-requires-then-code-le10
+filled-requires-then-code-le10 c = (c.requires, places-within _ 10 c.if-code-le10.true, omega arith)
+
+pub filled-requires-2 : goal.filled-requires-2
+filled-requires-2 c = (c.requires, places-within _ 12 c.requires.admitted.most, omega arith)

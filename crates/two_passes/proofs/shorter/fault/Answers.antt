@@ -6,20 +6,20 @@ use Rattle.shortened_theory.specs.Calls.{fits_word}
 use Rattle.shortened_theory.proofs.Guards.{word_fits}
 use Rattle.two_passes.proofs.Answers.{shorter-whole, shorter-filled, shorter-none}
 use Rattle.two_passes.proofs.shorter.fault.Goals as goal
-use Rattle.two_passes.proofs.shorter.fault.Goals.{Then-fits_word}
+use Rattle.two_passes.proofs.shorter.fault.Goals.{Else-not-fits_word}
 
 -- past the test the word fits
-ok : (c : Then-fits_word) → let g = c.args in fits_word g.t g.r g.s (length g.word.now) ≡ true
-ok c = sym c.fits_word.ensures ∙ c.if-fits_word.true
+ok : (c : Else-not-fits_word) → let g = c.args in fits_word g.code.t g.code.r g.code.s (length g.word.now) ≡ true
+ok c = sym c.fits_word.ensures ∙ c.if-not-fits_word.false
 
-pub returns-then-s-eq0 : goal.returns-then-s-eq0
-returns-then-s-eq0 c = c.fault.ensures ∙ shorter-whole _ _ _ _ (ok (goal.at.returns-then-s-eq0 c).Then-fits_word) c.if-s-eq0.true
+pub returns-then-not-fits_word : goal.returns-then-not-fits_word
+returns-then-not-fits_word c = shorter-none _ _ _ _ (sym c.fits_word.ensures ∙ c.if-not-fits_word.true)
 
-pub fault-requires-then-fits_word : goal.fault-requires-then-fits_word
-fault-requires-then-fits_word c = word_fits _ _ _ _ (ok (goal.at.fault-requires-then-fits_word c).Then-fits_word)
+pub returns-then-code-eq0 : goal.returns-then-code-eq0
+returns-then-code-eq0 c = c.fault.ensures ∙ shorter-whole _ _ _ _ (ok (goal.at.returns-then-code-eq0 c).Else-not-fits_word) c.if-code-eq0.true
 
-pub returns-then-fits_word : goal.returns-then-fits_word
-returns-then-fits_word c = c.fault-then-fits_word.ensures ∙ shorter-filled _ _ _ _ (ok (goal.at.returns-then-fits_word c).Then-fits_word)
+pub fault-requires-2 : goal.fault-requires-2
+fault-requires-2 c = word_fits _ _ _ _ (ok (goal.at.fault-requires-2 c).Else-not-fits_word)
 
 pub returns : goal.returns
-returns c = shorter-none _ _ _ _ (sym c.fits_word.ensures ∙ c.if-fits_word.false)
+returns c = c.fault-2.ensures ∙ shorter-filled _ _ _ _ (ok (goal.at.returns c).Else-not-fits_word)

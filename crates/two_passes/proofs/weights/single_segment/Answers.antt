@@ -1,9 +1,6 @@
 -- `two_passes::weights::single_segment` meets its contract. Assumes nothing.
-use native.Mathlib.Omega.{arith}
-use Rattle.loops_theory.proofs.Laying.{single-done}
+use Rattle.two_passes.proofs.Segments.{single-laid}
 use Rattle.two_passes.proofs.weights.single_segment.Goals as goal
 
 pub returns : goal.returns
-returns c =
-    let h = c.requires in
-    single-done _ _ _ c.args.word.now c.args.k c.args.n c.args.at (omega arith) c.clear.ensures c.bytes.ensures
+returns c = single-laid c.args.v.now c.args.singles.now _ c.requires c.copy_from_slice.ensures.after

@@ -1,27 +1,31 @@
 -- `two_passes::whole::fault` meets its contract: 0, or the place told from the syndrome. Assumes nothing.
-use mathlib.Core.Path.{sym, ◌∙◌}
+use mathlib.Core.Path.{ap, ◌∙◌}
+use mathlib.Core.List.{List}
 use native.Mathlib.Omega.{arith}
-use Rattle.layout_theory.proofs.Parameters.{Known, known}
-use Rattle.two_passes.proofs.Answers.{syndrome-long, fault-none, fault-short, fault-long}
+use Rattle.group_theory.specs.Group.{Modulus}
+use Rattle.layout_theory.proofs.Parameters.{Known, known, moduli-known}
+use Rattle.words_theory.specs.Syndrome.{syndrome}
+use Rattle.two_passes.proofs.Answers.{fault-none, fault-short, fault-long}
 use Rattle.two_passes.proofs.whole.fault.Goals as goal
-use Rattle.two_passes.proofs.whole.fault.Goals.{Else-n-eq0}
+use Rattle.two_passes.proofs.whole.fault.Goals.{Else-n-eq0, then-n-eq0-via-then-n-eq0, then-n-eq0-via-else-n-eq0+then-word-n}
 
 pub returns-then-n-eq0 : goal.returns-then-n-eq0
-returns-then-n-eq0 c = fault-none _ _ _ _ c.shape_of-s.ensures c.if-n-eq0.true
+returns-then-n-eq0 c =
+    elim c.then-n-eq0.branch [
+      | then-n-eq0-via-then-n-eq0 w ↦ fault-none _ _ _ _ c.shape-h.ensures w.if-n-eq0.true
+      | then-n-eq0-via-else-n-eq0+then-word-n w ↦ fault-short _ _ _ _ (known _ _ _ c.shape-h.ensures (let h = w.if-n-eq0.false in omega arith)) w.if-word-n.true
+    ]
 
--- past the first test the parameters are admitted
-shaped : (c : Else-n-eq0)
-    → Known c.args.t c.args.r c.shape_of-s.result
-shaped c = known _ _ _ c.shape_of-s.ensures (let h = c.if-n-eq0.false in omega arith)
-
-pub returns-then-word-n : goal.returns-then-word-n
-returns-then-word-n c = fault-short _ _ _ _ (shaped (goal.at.returns-then-word-n c).Else-n-eq0) c.if-word-n.true
+-- past the tests the parameters are admitted
+shaped : (c : Else-n-eq0) → Known c.args.code.t c.args.code.r c.shape-h.result
+shaped c = known _ _ _ c.shape-h.ensures (let h = c.if-n-eq0.false in omega arith)
 
 pub fault_of-requires : goal.fault_of-requires
 fault_of-requires c =
+    let k = shaped (goal.at.fault_of-requires c).Else-n-eq0 in
     let h = c.if-n-eq0.false in
-    (c.shape_of-s.ensures, omega arith, c.if-word-n.false, c.syndrome-e.ensures ∙ sym (syndrome-long _ _ _ _ (shaped (goal.at.fault_of-requires c).Else-n-eq0) c.if-word-n.false))
+    let w = c.args.word.now in
+    (c.shape-h.ensures, omega arith, omega arith, c.syndrome-e.ensures ∙ ap (λ (ms : List Modulus). syndrome ms w) (moduli-known _ _ _ k))
 
 pub returns : goal.returns
-returns c =
-    c.fault_of.ensures ∙ fault-long _ _ _ _ (shaped (goal.at.returns c).Else-n-eq0) c.if-word-n.false
+returns c = c.fault_of.ensures ∙ fault-long _ _ _ _ (shaped (goal.at.returns c).Else-n-eq0) (omega arith)

@@ -1,0 +1,11 @@
+-- `coder::work::syndrome_of` meets its contract. Assumes nothing.
+use mathlib.Core.Path.{ap, refl, ◌∙◌}
+use Rattle.coder_theory.specs.Calls.{answer_of}
+use Rattle.coder_theory.proofs.Outcomes.{word_room, syndrome-accepted}
+use Rattle.coder.proofs.work.syndrome_of.Goals as goal
+
+pub returns : goal.returns
+returns c =
+    let g = c.args in
+    rw (c.number_of.ensures, c.moduli.ensures.0, c.moduli.ensures.1)
+    (syndrome-accepted g.«record» g.word.now _ (c.in_ok-e.ensures.answer ∙ ap answer_of (word_room g.«record» g.word.now)) refl _ c.in_ok-e.ensures.sum _ refl)
