@@ -37,11 +37,6 @@ laid-step g v i x f h e =
           ∙ sym (take-suc g i 0 (omega arith)) ∙ ap (λ (k : ℕ). take k g) (sym (add-one i));
     }
 
-pub laid-end : (g v : List ℕ) (i : ℕ) → Laid g v i → length v ≤ i → v ≡ g
-laid-end g v i f h =
-    let s = f.same in
-    sym (take_all i v h) ∙ f.front ∙ take_all i g (omega arith)
-
 -- ---- two calls, the first of which writes the first k numbers of v, and the second all behind them
 pub put_rest : (k : ℕ) (v x y : List ℕ) → length x ≡ k → put_mid k (length (x ++ drop k v) - k) (x ++ drop k v) y ≡ x ++ y
 put_rest k v x y e =
