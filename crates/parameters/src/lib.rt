@@ -94,33 +94,21 @@ impl Code {
     pub fn fits_word(self, count: usize) -> bool
         ensures { result ≡ fits_word self.t self.r self.s count }
     {
-        if self.allowed() {
-            let h = self.shape();
-            return count == (h.places - self.s) as usize;
-        }
-        false
+        self.allowed() && count == (self.shape().places - self.s) as usize
     }
 
     // Whether so many bytes are those of a message of the shortened code.
     pub fn fits_message(self, count: usize) -> bool
         ensures { result ≡ fits_message self.t self.r self.s count }
     {
-        if self.allowed() {
-            let h = self.shape();
-            return count == (h.message - self.s) as usize;
-        }
-        false
+        self.allowed() && count == (self.shape().message - self.s) as usize
     }
 
     // Whether s is allowed and an output has room for a word.
     pub fn has_room(self, room: usize) -> bool
         ensures { result ≡ (allowed_for self.t self.r self.s && leb (places_of self.t - self.s) room) }
     {
-        if self.allowed() {
-            let h = self.shape();
-            return (h.places - self.s) as usize <= room;
-        }
-        false
+        self.allowed() && (self.shape().places - self.s) as usize <= room
     }
 }
 
@@ -141,5 +129,5 @@ fn ends(part: u32, message: u32, s: u32) -> bool
 pub fn is_place(n: u32, p: u32) -> bool
     ensures { result ≡ (leb 1 p && leb p n) }
 {
-    if p == 0 { false } else { p <= n }
+    (1..=n).contains(&p)
 }

@@ -11,14 +11,14 @@ ok : (c : Then-allowed) → allowed_for c.args.self.t c.args.self.r c.args.self.
 ok c = sym c.allowed.ensures ∙ c.if-allowed.true
 
 pub overflow_sub-result : goal.overflow_sub-result
-overflow_sub-result c = (still _ _ _ (ok ((goal.at.overflow_sub-result c).Then-allowed)) _ c.shape-h.ensures).1
+overflow_sub-result c = (still _ _ _ (ok ((goal.at.overflow_sub-result c).Then-allowed)) _ c.shape.ensures).1
 
 pub returns-then-allowed : goal.returns-then-allowed
 unfolding fits_message
 returns-then-allowed c =
     let y = ok ((goal.at.returns-then-allowed c).Then-allowed) in
-    rw (y, message-is _ _ _ y _ c.shape-h.ensures)
+    rw (y, message-is _ _ _ y _ c.shape.ensures)
 
-pub returns : goal.returns
+pub returns-else-allowed : goal.returns-else-allowed
 unfolding fits_message
-returns c = rw (sym c.allowed.ensures ∙ c.if-allowed.false)
+returns-else-allowed c = rw (sym c.allowed.ensures ∙ c.if-allowed.false) c.if-allowed.false
