@@ -17,12 +17,13 @@ pub(crate) struct Filled<'a> {
 }
 
 impl Filled<'_> {
-    // How many places are left out: a constant where it is none, so that nothing of the cutting is compiled.
-    pub(crate) fn left_out<const CUT: bool>(&self) -> usize
-        requires { CUT ≡ false → self.now.d ≡ 0 }
-        ensures { result ≡ self.now.d }
+    // The same, with a constant where no place is left out, so that nothing of the cutting is compiled.
+    pub(crate) fn cut<const CUT: bool>(self) -> Self
+        requires { CUT ≡ false → self.d ≡ 0 }
+        ensures { result ≡ self.entry }
     {
-        if CUT { self.d } else { 0 }
+        let d = if CUT { self.d } else { 0 };
+        Filled { d, word: self.word }
     }
 
     // The weight 0 of a unit, and the weights of the pairs from an index on.
@@ -82,11 +83,12 @@ fn digits(word: &[u8], v: &mut [u8]) -> u8
     ensures most { Highest word.now 0 (length v.old) result }
     ensures laid { v.new ≡ row true (length v.old / 2) word.now }
 {
+    let next = &word[1..];
     let mut most: u8 = 0;
     for (i, x) in v.iter_mut().enumerate() {
         let b = word[i];
         most = most.max(b);
-        *x = every_other(i, gray::digit(b, word[i + 1]));
+        *x = every_other(i, gray::digit(b, next[i]));
     }
     most
 }

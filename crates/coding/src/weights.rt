@@ -53,6 +53,7 @@ pub(crate) fn message_sum(h: Shape, d: usize, word: &[u8], seen: usize) -> Optio
 
 impl Message<'_> {
     // The sum by an array of weights that has room for codes up to t = 6, 10 and 12.
+    #[inline(always)]
     fn sum<const CUT: bool>(&self, seen: usize) -> Option<Element>
         requires { HoldsFilled self.now.m.a self.now.m.b self.now.count self.now.part self.now.filled.d self.now.filled.word.now × BitsIn (fill self.now.filled.d self.now.filled.word.now) 0 seen × (CUT ≡ false → self.now.filled.d ≡ 0) }
         ensures { MatchOption result (BadIn (fill self.now.filled.d self.now.filled.word.now) 0 (length (fill self.now.filled.d self.now.filled.word.now))) (λ x. BitsIn (fill self.now.filled.d self.now.filled.word.now) 0 (message_in self.now.m.a self.now.m.b) × (x ≡ syndrome_over (moduli self.now.m.a self.now.m.b) (message (moduli self.now.m.a self.now.m.b)) (fill self.now.filled.d self.now.filled.word.now))) }
@@ -69,29 +70,32 @@ impl Message<'_> {
 
     // The same by an array of N weights. Where no place is left out, nothing of the cutting is left in this function
     // when it is compiled.
+    #[inline(always)]
     fn summed<const N: usize, const CUT: bool>(&self, seen: usize) -> Option<Element>
         requires { HoldsFilled self.now.m.a self.now.m.b self.now.count self.now.part self.now.filled.d self.now.filled.word.now × BitsIn (fill self.now.filled.d self.now.filled.word.now) 0 seen × (CUT ≡ false → self.now.filled.d ≡ 0) × Holds self.now.m.a self.now.m.b N }
         ensures { MatchOption result (BadIn (fill self.now.filled.d self.now.filled.word.now) 0 (length (fill self.now.filled.d self.now.filled.word.now))) (λ x. BitsIn (fill self.now.filled.d self.now.filled.word.now) 0 (message_in self.now.m.a self.now.m.b) × (x ≡ syndrome_over (moduli self.now.m.a self.now.m.b) (message (moduli self.now.m.a self.now.m.b)) (fill self.now.filled.d self.now.filled.word.now))) }
     {
-        let d = self.filled.left_out::<CUT>();
         let x = Message {
             m: self.m,
             count: self.count,
             part: self.part,
-            filled: Filled {
-                d,
-                word: self.filled.word,
-            },
+            filled: self.filled.cut::<CUT>(),
         };
         let mut v = [0u8; N];
-        if x.lay(seen, &mut v) {
-            Some(folds::weighted(self.m, v))
-        } else {
-            None
-        }
+        let good = x.lay(seen, &mut v);
+        let sum = folds::weighted(self.moduli_if(good), v);
+        if good { Some(sum) } else { None }
+    }
+
+    // The moduli where the word is good; else such as no code has, so that the weights of a bad word are not summed.
+    fn moduli_if(&self, good: bool) -> Moduli
+        ensures { good ≡ true → result ≡ self.now.m }
+    {
+        if good { self.m } else { Moduli { a: 13, b: 0 } }
     }
 
     // All weights: those of the pairs, and behind them those of the singles, which stand first in a word.
+    #[inline(always)]
     fn lay(&self, seen: usize, v: &mut [u8]) -> bool
         requires { HoldsFilled self.now.m.a self.now.m.b self.now.count self.now.part self.now.filled.d self.now.filled.word.now × BitsIn (fill self.now.filled.d self.now.filled.word.now) 0 seen × Holds self.now.m.a self.now.m.b (length v.old) }
         ensures told { Tells result (fill self.now.filled.d self.now.filled.word.now) 0 (message_in self.now.m.a self.now.m.b) }
@@ -105,6 +109,7 @@ impl Message<'_> {
     }
 
     // The weights of the pairs: for each quaternary component a segment, up to the unit of the next one.
+    #[inline(always)]
     fn pairs(&self, v: &mut [u8]) -> bool
         requires { HoldsFilled self.now.m.a self.now.m.b self.now.count self.now.part self.now.filled.d self.now.filled.word.now × (length v.old ≡ 2 * plus_to self.now.m.a self.now.m.b self.now.m.b) × (length v.old ≤ room) }
         ensures told { Tells result (fill self.now.filled.d self.now.filled.word.now) self.now.part (message_in self.now.m.a self.now.m.b) }
@@ -127,6 +132,7 @@ impl Message<'_> {
 
     // The weights of the singles: zero, for each binary component a segment, and the others, among which there is no
     // unit. They are tested from the index `seen` on: no byte stands behind its weight.
+    #[inline(always)]
     fn singles(&self, seen: usize, v: &mut [u8]) -> bool
         requires { HoldsFilled self.now.m.a self.now.m.b self.now.count self.now.part self.now.filled.d self.now.filled.word.now × BitsIn (fill self.now.filled.d self.now.filled.word.now) 0 seen × (length v.old ≡ self.now.part + self.now.m.a + 1) × (length v.old ≤ room) }
         ensures told { Tells result (fill self.now.filled.d self.now.filled.word.now) 0 self.now.part }
