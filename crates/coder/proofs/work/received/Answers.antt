@@ -3,7 +3,7 @@ use borrow.Author.Rules.{rules}
 use mathlib.Core.Path.{◌≡◌, refl, sym, ap, subst, ◌∙◌}
 use mathlib.Core.List.{List}
 use Prim.Native.Nat.{ℕ}
-use Rattle.std.specs.Prelude.{Result, Ok, IfOk}
+use Rattle.std.specs.Prelude.{Result, IfOk}
 use Rattle.shortened_theory.specs.Calls.{shortened_syndrome_for}
 use Rattle.coder_theory.specs.State.{places_in}
 use Rattle.coder_theory.specs.Reasons.{Reason, first_reason, bad_place}
