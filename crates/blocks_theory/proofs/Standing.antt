@@ -2,7 +2,6 @@
 -- nothing.
 use mathlib.Core.Path.{◌≡◌, refl, sym, ap, ap₂, subst, ◌∙◌}
 use mathlib.Core.Bool.{Bool, true, false, not}
-use mathlib.Core.Logic.{◌⊎◌, inl, inr}
 use mathlib.Core.List.{List, [], ◌∷◌, ◌++◌, map, append_assoc, append-nil}
 use Prim.Native.Nat.{ℕ, zero, suc, ◌+◌, ◌-◌, ◌*◌, ◌/◌, ◌%◌, ◌^◌, ◌<◌, ◌≤◌}
 use native.Mathlib.Decide.{dec_lt}
@@ -20,7 +19,9 @@ use Rattle.layout_theory.proofs.Lists.{from-append, length_from}
 use Rattle.layout_theory.proofs.Index.{at-single, at_pair}
 use Rattle.blocks_theory.specs.Blocks as blocks
 use Rattle.blocks_theory.specs.Blocks.{select, sign_at, in_plus, in_even, skips, others, level, plus_to, even_to}
-use Rattle.blocks_theory.specs.Indices.{standing, PastTwos, PastFours}
+use Rattle.blocks_theory.specs.Indices.{digit_of, kind_of, numbers, standing, Past}
+use Rattle.blocks_theory.specs.declared.Sign.{Sign}
+use Rattle.blocks_theory.specs.declared.Sign.TheVariants.{Zero, One, Three}
 use Rattle.blocks_theory.proofs.Blocks.{select_yes, select_no, select-append}
 use Rattle.blocks_theory.proofs.Levels.{size-next, plus_none, all_left}
 use Rattle.blocks_theory.proofs.Descents.{get_or-from}
@@ -94,15 +95,23 @@ module _ (a b : ℕ) (h : a + b ≤ 12) where
       let u = above j (b - j) (omega arith) in
       (u.0, sym (plus-all a b) ∙ ap (λ (i : ℕ). blocks.plus (level a b i)) (sym e) ∙ u.1)
 
+  -- the next unit stands behind an index, and behind the last one the numbers end
+  next-unit : (c k : ℕ) → Past One a b c k → k < plus_to a b b → k < plus_to a b c
+  next-unit c k s l = go (dec_lt c b)
+    where
+      go : Dec (c < b) → k < plus_to a b c
+      go (yes y) = s.next y
+      go (no n) = let e : b ≡ c = omega (arith, s.most) in subst (λ (i : ℕ). k < plus_to a b i) e l
+
   -- index k of the numbers of sign 1 is index k − c of the pairs, where c units stand before it
-  pub pair-at : (c k : ℕ) → PastFours a b c k
+  pub pair-at : (c k : ℕ) → Past One a b c k → k < plus_to a b b
       → (k - c < length (pairs (moduli a b))) × (get_or (pairs (moduli a b)) (k - c) (zeros (moduli a b)) ≡ element (moduli a b) (get_or (blocks.plus (moduli a b)) k 0))
-  pair-at zero k s = let z : plus_to a b 0 ≡ 0 = ap length (plus_none a b) in absurd (omega (arith, s.next))
-  pair-at (suc j) k s =
+  pair-at zero k s l = let z : plus_to a b 0 ≡ 0 = ap length (plus_none a b) in absurd (omega (arith, next-unit 0 k s l))
+  pair-at (suc j) k s l =
       let ms = moduli a b in
       let jb : j < b = omega (arith, s.most) in
       let lo : plus_to a b j < k = s.last j refl in
-      let hi : k < plus_to a b (suc j) = s.next in
+      let hi : k < plus_to a b (suc j) = next-unit (suc j) k s l in
       let m = k - suc (plus_to a b j) in
       let xs = blocks.plus (level a b j) in
       let u = plus-first (suc j) jb in
@@ -214,7 +223,7 @@ module _ (a b : ℕ) (h : a + b ≤ 12) where
       ∙ omega arith
 
   -- zero and c units are at most k, where they stand before it
-  pub enough : (c k : ℕ) → PastTwos a c k → 0 < k → suc c ≤ k
+  pub enough : (c k : ℕ) → Past Zero a b c k → 0 < k → suc c ≤ k
   enough zero k s z = omega arith
   enough (suc i) k s z =
       let e : 0 + i ≡ i = omega arith in
@@ -224,7 +233,7 @@ module _ (a b : ℕ) (h : a + b ≤ 12) where
   pub rises : (c : ℕ) → c ≤ a → 2 ^ c + (a - c) ≤ 2 ^ a
   rises c l = let e : c + (a - c) ≡ a = omega arith in subst (λ (j : ℕ). 2 ^ c + (a - c) ≤ 2 ^ j) e (pow-rises a b h c (a - c))
 
-  even-at : (c k : ℕ) → PastTwos a c k → 0 < k → Dec (k < 2 ^ a) → get_or (free (from 0 (2 ^ a)) ++ high a b h) (k - suc c) 0 ≡ get_or (from 0 (2 ^ a) ++ high a b h) k 0
+  even-at : (c k : ℕ) → Past Zero a b c k → 0 < k → Dec (k < 2 ^ a) → get_or (free (from 0 (2 ^ a)) ++ high a b h) (k - suc c) 0 ≡ get_or (from 0 (2 ^ a) ++ high a b h) k 0
   even-at zero k s z (yes l) = absurd (none (dec_lt 0 a))
     where
       none : Dec (0 < a) → ⊥
@@ -254,7 +263,7 @@ module _ (a b : ℕ) (h : a + b ≤ 12) where
       at_last (no n) = omega (arith, s.most)
 
   -- index k of the numbers of sign 0 is index k − c − 1 of the singles, where zero and c units stand before it
-  pub single-at : (c k : ℕ) → PastTwos a c k → 0 < k → k < length (blocks.even (moduli a b))
+  pub single-at : (c k : ℕ) → Past Zero a b c k → 0 < k → k < length (blocks.even (moduli a b))
       → (k - suc c < length (singles (moduli a b))) × (get_or (singles (moduli a b)) (k - suc c) (zeros (moduli a b)) ≡ element (moduli a b) (get_or (blocks.even (moduli a b)) k 0))
   single-at c k s z l =
       let ms = moduli a b in
@@ -294,8 +303,8 @@ module _ (a b : ℕ) (h : a + b ≤ 12) where
       omega arith
 
   -- a single, by its index among the elements of sign 0
-  pub single-element : (i k : ℕ) → i < length (singles (moduli a b)) → i + 1 ≤ k → PastTwos a (k - (i + 1)) k
-      → (k < length (blocks.even (moduli a b))) × (standing false 1 (moduli a b) k ≡ element_at (moduli a b) (i + 1))
+  pub single-element : (i k : ℕ) → i < length (singles (moduli a b)) → i + 1 ≤ k → Past Zero a b (k - (i + 1)) k
+      → (k < length (blocks.even (moduli a b))) × (standing Zero (moduli a b) k ≡ element_at (moduli a b) (i + 1))
   single-element i k l m s =
       let ms = moduli a b in
       let n = (message-counts a b h).0 in
@@ -312,45 +321,45 @@ module _ (a b : ℕ) (h : a + b ≤ 12) where
       )
 
   -- the two places of a pair, by its index among the elements of sign 1
-  pub pair-element : (j k : ℕ) → j < length (pairs (moduli a b)) → j ≤ k → PastFours a b (k - j) k
+  pub pair-element : (j k : ℕ) → j < length (pairs (moduli a b)) → j ≤ k → Past One a b (k - j) k
       → (k < length (blocks.plus (moduli a b)))
-      × (standing true 3 (moduli a b) k ≡ element_at (moduli a b) (suc (length (singles (moduli a b)) + 2 * j)))
-      × (standing true 1 (moduli a b) k ≡ element_at (moduli a b) (suc (length (singles (moduli a b)) + suc (2 * j))))
+      × (standing Three (moduli a b) k ≡ element_at (moduli a b) (suc (length (singles (moduli a b)) + 2 * j)))
+      × (standing One (moduli a b) k ≡ element_at (moduli a b) (suc (length (singles (moduli a b)) + suc (2 * j))))
   pair-element j k l m s =
       let ms = moduli a b in
       let c = k - j in
       let z = element ms (get_or (blocks.plus ms) k 0) in
       let t = s.most in
-      let x = s.next in
       let y = length-plus in
-      let e : c + (b - c) ≡ b = omega arith in
-      let r : plus_to a b c + (b - c) ≤ plus_to a b b = subst (λ (i : ℕ). plus_to a b c + (b - c) ≤ plus_to a b i) e (plus-rises a b h c (b - c) (omega arith)) in
+      let u = inside (dec_lt c b) in
       let q : k - c ≡ j = omega arith in
-      let w : get_or (pairs ms) j (zeros ms) ≡ z = ap (λ (i : ℕ). get_or (pairs ms) i (zeros ms)) (sym q) ∙ (pair-at c k s).1 in
+      let w : get_or (pairs ms) j (zeros ms) ≡ z = ap (λ (i : ℕ). get_or (pairs ms) i (zeros ms)) (sym q) ∙ (pair-at c k s u).1 in
       let p = at_pair ms j l in (
         omega arith,
         times-three ms z ∙ ap (negative ms) (sym w) ∙ sym p.0,
         times-one ms z (valid-element ms (get_or (blocks.plus ms) k 0)) ∙ sym w ∙ sym p.1,
       )
+    where
+      inside : Dec (k - j < b) → k < plus_to a b b
+      inside (yes y) =
+          let c = k - j in
+          let e : c + (b - c) ≡ b = omega arith in
+          let r : plus_to a b c + (b - c) ≤ plus_to a b b = subst (λ (i : ℕ). plus_to a b c + (b - c) ≤ plus_to a b i) e (plus-rises a b h c (b - c) (omega arith)) in
+          omega (arith, s.next y)
+      inside (no n) = let d = (message-counts a b h).1 in omega (arith, s.most)
 
-  -- with the factor that the place's half asks
-  pub pair-half : (i x k f : ℕ) → x ≡ length (singles (moduli a b)) → x ≤ i → i < x + 2 * length (pairs (moduli a b)) → (i - x) / 2 ≤ k
-      → PastFours a b (k - (i - x) / 2) k → f + 2 * ((i - x) % 2) ≡ 3
-      → (k < length (blocks.plus (moduli a b))) × ((f ≡ 1) ⊎ (f ≡ 3)) × (standing true f (moduli a b) k ≡ element_at (moduli a b) (i + 1))
-  pair-half i x k f e l m o s g = go ((i - x) % 2) refl
+  -- the one that the place's half asks
+  pub pair-half : (i x k : ℕ) (f : Sign) → x ≡ length (singles (moduli a b)) → x ≤ i → i < x + 2 * length (pairs (moduli a b)) → (i - x) / 2 ≤ k
+      → Past One a b (k - (i - x) / 2) k → digit_of f + 2 * ((i - x) % 2) ≡ 3
+      → (k < length (numbers (kind_of f) (moduli a b))) × (standing f (moduli a b) k ≡ element_at (moduli a b) (i + 1))
+  pair-half i x k f e l m o s g = go f g
     where
       p : (k < length (blocks.plus (moduli a b)))
-          × (standing true 3 (moduli a b) k ≡ element_at (moduli a b) (suc (length (singles (moduli a b)) + 2 * ((i - x) / 2))))
-          × (standing true 1 (moduli a b) k ≡ element_at (moduli a b) (suc (length (singles (moduli a b)) + suc (2 * ((i - x) / 2)))))
+          × (standing Three (moduli a b) k ≡ element_at (moduli a b) (suc (length (singles (moduli a b)) + 2 * ((i - x) / 2))))
+          × (standing One (moduli a b) k ≡ element_at (moduli a b) (suc (length (singles (moduli a b)) + suc (2 * ((i - x) / 2)))))
       p = pair-element ((i - x) / 2) k (omega arith) o s
 
-      go : (d : ℕ) → (i - x) % 2 ≡ d → (k < length (blocks.plus (moduli a b))) × ((f ≡ 1) ⊎ (f ≡ 3)) × (standing true f (moduli a b) k ≡ element_at (moduli a b) (i + 1))
-      go zero q =
-          let y : f ≡ 3 = omega arith in
-          let n : suc (length (singles (moduli a b)) + 2 * ((i - x) / 2)) ≡ i + 1 = omega arith in
-          (p.0, inr y, ap (λ (c : ℕ). standing true c (moduli a b) k) y ∙ p.1 ∙ ap (element_at (moduli a b)) n)
-      go (suc zero) q =
-          let y : f ≡ 1 = omega arith in
-          let n : suc (length (singles (moduli a b)) + suc (2 * ((i - x) / 2))) ≡ i + 1 = omega arith in
-          (p.0, inl y, ap (λ (c : ℕ). standing true c (moduli a b) k) y ∙ p.2 ∙ ap (element_at (moduli a b)) n)
-      go (suc (suc d)) q = absurd (omega arith)
+      go : (f : Sign) → digit_of f + 2 * ((i - x) % 2) ≡ 3 → (k < length (numbers (kind_of f) (moduli a b))) × (standing f (moduli a b) k ≡ element_at (moduli a b) (i + 1))
+      go Zero q = absurd (omega arith)
+      go One q = let n : suc (length (singles (moduli a b)) + suc (2 * ((i - x) / 2))) ≡ i + 1 = omega arith in (p.0, p.2 ∙ ap (element_at (moduli a b)) n)
+      go Three q = let n : suc (length (singles (moduli a b)) + 2 * ((i - x) / 2)) ≡ i + 1 = omega arith in (p.0, p.1 ∙ ap (element_at (moduli a b)) n)

@@ -2,121 +2,134 @@
 // element. With one more quaternary component the numbers of a sign are four blocks, one for each
 // digit, of numbers without it (crate blocks_theory, proofs/Blocks.antt), so the highest digit is found
 // by comparing the index with the blocks' widths, and so on down to the binary components, where all
-// numbers have one sign and the index is the number. `pairs` says which sign is meant: 1, or 0 for the
-// elements that are their own negatives.
-ghost use Rattle.std.specs.Prelude.{◌≡◌, ◌⊎◌, ◌++◌, false, ◌+◌, ◌*◌, ◌-◌, ◌/◌, ◌≤◌, ◌<◌, ◌^◌, length, get_or, drop};
+// numbers have one sign and the index is the number. What has sign 3 is found by its negative, which has
+// sign 1.
+ghost use Rattle.std.specs.Prelude.{◌≡◌, ◌++◌, ◌+◌, ◌-◌, ◌*◌, ◌≤◌, ◌<◌, ◌^◌, length, drop};
 ghost use Rattle.group_theory.specs.Group.{Valid, moduli, times, number, element};
 ghost use Rattle.group_theory.specs.Sign.{lead, odd_or};
-ghost use Rattle.layout_theory.specs.Choice.{zero_unless, pick};
 ghost use Rattle.blocks_theory.specs.Blocks.{level};
-ghost use Rattle.blocks_theory.specs.Indices.{numbers, standing, first_width, low_width, offset, low_after, InBlock, Signed, Based};
+ghost use Rattle.blocks_theory.specs.Indices.{digit_of, kind_of, factor_of, Signed, numbers, standing, ones, offset, kind_after, InBlock, Based};
 
-use crate::{narrow, power};
-use group::Element;
+use blocks_theory::{Kind, Sign};
+use group::{Element, Moduli};
 
-// The quaternary digits of an element, and the index in the block that they leave.
-#[derive(Drop)]
-struct Split {
-    digits: Element,
-    index: u32,
-}
-
-// A digit, the index in its block, and whether that block has the numbers of every sign but 3.
-#[derive(Drop)]
-struct Block {
-    digit: u8,
-    index: u32,
-    low: bool,
-}
-
-fn choose(test: bool, x: u32, y: u32) -> u32
-    ensures { (result ≡ pick test x y) × (result ≤ x + y) }
+// How many numbers of a kind the first a + j components have.
+pub(crate) fn count(m: Moduli, kind: Kind, j: usize) -> u32
+    requires { (m.a + m.b ≤ 12) × (j ≤ m.b) }
+    ensures { (result ≡ length (numbers kind (level m.a m.b j))) × (result ≤ 2 ^ 24) }
 {
-    if test { x } else { y }
-}
-
-fn when(test: bool, n: u32) -> u32
-    ensures { (result ≡ zero_unless test n) × (result ≤ n) }
-{
-    if test { n } else { 0 }
-}
-
-fn one(test: bool) -> u8
-    ensures { (result ≡ zero_unless test 1) × (result ≤ 1) }
-{
-    if test { 1 } else { 0 }
-}
-
-// Whether the block of a digit has the numbers of every sign but 3. The sign is that of the components
-// below where one of them is odd, and else that of the digit. So an even digit asks of those below
-// what was asked before, 1 asks that their sign is not 3, and 3 that it is 1.
-fn after(low: bool, d: u8) -> bool
-    requires { d < 4 }
-    ensures { result ≡ low_after low d }
-{
-    if d % 2 == 0 { low } else { d == 1 }
-}
-
-// How wide the first block is, where n numbers without the highest component have e of sign 0 among
-// them: the other signs share the rest.
-fn first_width(pairs: bool, n: u32, e: u32) -> u32
-    requires { e ≤ n }
-    ensures { result ≡ first_width pairs n e }
-{
-    if pairs { (n - e) / 2 } else { e }
-}
-
-// The same for the block of digit 1.
-fn low_width(pairs: bool, n: u32, e: u32) -> u32
-    requires { (e ≤ n) × (n < 2 ^ 25) }
-    ensures { result ≡ low_width pairs n e }
-{
-    if pairs { (n + e) / 2 } else { 0 }
-}
-
-// The block of index k: its digit is how many blocks start at k or before, but for the first one.
-fn step(k: u32, low: bool, first: u32, m: u32) -> Block
-    requires { (first < 2 ^ 25) × (m < 2 ^ 25) × (k < 2 * pick low m first + m + first) }
-    ensures { InBlock k low first m result.digit result.index result.low }
-{
-    let s = choose(low, m, first);
-    let x = s <= k;
-    let y = s + m <= k;
-    let z = 2 * s + m <= k;
-    let d = one(x) + one(y) + one(z);
-    let o = when(x, s) + when(y, m) + when(z, s);
-    Block {
-        digit: d,
-        index: k - o,
-        low: after(low, d),
+    let even = 1u32 << (m.a + j);
+    let low = ((1u32 << (m.a + 2 * j)) + even) / 2;
+    match kind {
+        Kind::Even => even,
+        Kind::Plus => low - even,
+        Kind::Low => low,
     }
 }
 
-// The quaternary digits of the element at index k, each times `factor`.
-fn top(a: usize, b: usize, pairs: bool, factor: u8, k: u32) -> Split
-    requires { (a + b ≤ 12) × ((factor ≡ 1) ⊎ (factor ≡ 3)) × (k < length (numbers pairs false (moduli a b))) }
-    ensures { standing pairs factor (moduli a b) k ≡ element (level a 0 0) result.index ++ drop a result.digits }
+// The blocks of the numbers of a kind, by the digit of one component: how wide those of the digits 0 and
+// 2 are, and that of digit 1. The block of digit 3 takes the rest.
+#[derive(Clone, Copy)]
+struct Blocks {
+    even: u32,
+    one: u32,
+    ghost small: { (even ≤ 2 ^ 24) × (one ≤ 2 ^ 24) },
+}
+
+impl Blocks {
+    // Those of quaternary component j, counted from 0.
+    fn of(m: Moduli, j: usize, kind: Kind) -> Blocks
+        requires { (m.a + m.b ≤ 12) × (j < m.b) }
+        ensures { (result.even ≡ length (numbers kind (level m.a m.b j))) × (result.one ≡ ones kind (level m.a m.b j)) }
+    {
+        let one = match kind {
+            Kind::Even => 0,
+            _ => count(m, Kind::Low, j),
+        };
+        Blocks {
+            even: count(m, kind, j),
+            one,
+        }
+    }
+
+    // The digit whose block has index k, and the index there.
+    fn find(self, k: u32) -> (u8, u32)
+        ensures { InBlock k self.even self.one result.0 × (result.1 ≡ k - offset result.0 self.even self.one) }
+    {
+        if k < self.even {
+            (0, k)
+        } else if k < self.even + self.one {
+            (1, k - self.even)
+        } else if k < 2 * self.even + self.one {
+            (2, k - (self.even + self.one))
+        } else {
+            (3, k - (2 * self.even + self.one))
+        }
+    }
+
+    // Where the block of a digit starts.
+    fn start(self, d: u8) -> u32
+        requires { d < 4 }
+        ensures { (result ≡ offset d self.even self.one) × (result < 2 ^ 26) }
+    {
+        u32::from((d + 1) / 2) * self.even + u32::from(d / 2) * self.one
+    }
+}
+
+// What follows of a kind and of a sign are free functions: the two enums stand in a crate of theory, which
+// has no functions.
+
+// The kind of the numbers in the block of a digit. The sign is that of the components below where one of
+// them is odd, and else that of the digit. So an even digit asks of those below what was asked before,
+// 1 asks that their sign is not 3, and 3 that it is 1.
+fn after(kind: Kind, d: u8) -> Kind
+    requires { d < 4 }
+    ensures { result ≡ kind_after kind d }
+{
+    if d == 1 {
+        Kind::Low
+    } else if d == 3 {
+        Kind::Plus
+    } else {
+        kind
+    }
+}
+
+// The kind among whose numbers an element of a sign is sought.
+fn kind(sign: Sign) -> Kind
+    ensures { result ≡ kind_of sign }
+{
+    match sign {
+        Sign::Zero => Kind::Even,
+        _ => Kind::Plus,
+    }
+}
+
+// What an element of a sign is multiplied by to be the one whose number is sought, and that one to be it.
+fn factor(sign: Sign) -> u8
+    ensures { result ≡ factor_of sign }
+{
+    match sign {
+        Sign::Three => 3,
+        _ => 1,
+    }
+}
+
+// The quaternary digits of the element at index k, and the number of its binary ones.
+fn top(m: Moduli, sign: Sign, k: u32) -> (Element, u32)
+    requires { (m.a + m.b ≤ 12) × (k < length (numbers (kind_of sign) (moduli m.a m.b))) }
+    ensures { standing sign (moduli m.a m.b) k ≡ element (level m.a 0 0) result.1 ++ drop m.a result.0 }
 {
     let mut r = [0u8; 12];
-    let mut n = power(narrow(a + 2 * b));
-    let mut e = power(narrow(a + b));
     let mut i = k;
-    let mut low = false;
-    let mut j = b;
-    while 0 < j {
-        j -= 1;
-        n = n / 4;
-        e = e / 2;
-        let s = step(i, low, first_width(pairs, n, e), low_width(pairs, n, e));
-        let d = s.digit;
-        r[a + j] = (factor * d) % 4;
-        i = s.index;
-        low = s.low;
+    let mut kind = kind(sign);
+    for j in (0..m.b).rev() {
+        let (d, index) = Blocks::of(m, j, kind).find(i);
+        r[m.a + j] = (factor(sign) * d) % 4;
+        i = index;
+        kind = after(kind, d);
     }
-    Split {
-        digits: r,
-        index: i,
-    }
+    (r, i)
 }
 
 // The binary digits of k, before the quaternary ones that x has.
@@ -126,82 +139,59 @@ fn bits(a: usize, k: u32, x: Element) -> Element
 {
     let mut r = x;
     let mut left = k;
-    let mut i: usize = 0;
-    while i < a {
+    for i in 0..a {
         r[i] = (left % 2) as u8;
-        left = left / 2;
-        i += 1;
+        left /= 2;
     }
     r
 }
 
-// The element at index k, or with the factor 3 its negative.
-pub(crate) fn element(a: usize, b: usize, pairs: bool, factor: u8, k: u32) -> Element
-    requires { (a + b ≤ 12) × ((factor ≡ 1) ⊎ (factor ≡ 3)) × (k < length (numbers pairs false (moduli a b))) }
-    ensures { result ≡ standing pairs factor (moduli a b) k }
+// The element of a sign at index k.
+pub(crate) fn element(m: Moduli, sign: Sign, k: u32) -> Element
+    requires { (m.a + m.b ≤ 12) × (k < length (numbers (kind_of sign) (moduli m.a m.b))) }
+    ensures { result ≡ standing sign (moduli m.a m.b) k }
 {
-    let t = top(a, b, pairs, factor, k);
-    let r = t.digits;
-    let u = t.index;
-    bits(a, u, r)
+    let (digits, low) = top(m, sign, k);
+    bits(m.a, low, digits)
 }
 
 // The sign with a quaternary component d before the others.
-fn lead_after(d: u8, lead: u8) -> u8
+fn sign_after(sign: Sign, d: u8) -> Sign
     requires { d < 4 }
-    ensures { result ≡ odd_or d lead }
+    ensures { digit_of result ≡ odd_or d (digit_of sign) }
 {
-    if d % 2 == 0 { lead } else { d }
+    if d % 2 == 0 {
+        sign
+    } else if d == 1 {
+        Sign::One
+    } else {
+        Sign::Three
+    }
 }
 
 // The sign of an element.
-pub(crate) fn sign(a: usize, b: usize, x: Element) -> u8
-    requires { (a + b ≤ 12) × Valid (moduli a b) x }
-    ensures { result ≡ lead (moduli a b) x }
+pub(crate) fn sign(m: Moduli, x: Element) -> Sign
+    requires { (m.a + m.b ≤ 12) × Valid (moduli m.a m.b) x }
+    ensures { digit_of result ≡ lead (moduli m.a m.b) x }
 {
-    let mut s: u8 = 0;
-    let mut j = b;
-    while 0 < j {
-        j -= 1;
-        s = lead_after(x[a + j], s);
+    let mut s = Sign::Zero;
+    for j in (0..m.b).rev() {
+        s = sign_after(s, x[m.a + j]);
     }
     s
 }
 
-pub(crate) fn wide(x: u8) -> u32
-    ensures { result ≡ x }
+// The index where the elements start that share the quaternary digits of x.
+fn base(m: Moduli, sign: Sign, x: Element) -> u32
+    requires { Signed m.a m.b sign x }
+    ensures { Based m.a m.b (kind_of sign) (times (moduli m.a m.b) (factor_of sign) x) result }
 {
-    x as u32
-}
-
-// Where the block of a digit starts, the first s wide and that of digit 1 m wide.
-fn start(d: u8, s: u32, m: u32) -> u32
-    requires { (d < 4) × (s < 2 ^ 26) × (m < 2 ^ 26) }
-    ensures { result ≡ offset d s m }
-{
-    wide((d + 1) / 2) * s + wide(d / 2) * m
-}
-
-// The index where the elements start that share the quaternary digits of `factor` times x.
-fn base(a: usize, b: usize, pairs: bool, factor: u8, x: Element) -> u32
-    requires { Signed a b pairs factor x }
-    ensures { Based a b pairs (times (moduli a b) factor x) result }
-{
-    let mut n = power(narrow(a + 2 * b));
-    let mut e = power(narrow(a + b));
-    let mut k: u32 = 0;
-    let mut low = false;
-    let mut j = b;
-    while 0 < j {
-        j -= 1;
-        n = n / 4;
-        e = e / 2;
-        let d = (factor * x[a + j]) % 4;
-        let m = low_width(pairs, n, e);
-        let s = choose(low, m, first_width(pairs, n, e));
-        k += start(d, s, m);
-        let next = after(low, d);
-        low = next;
+    let mut k = 0;
+    let mut kind = kind(sign);
+    for j in (0..m.b).rev() {
+        let d = (factor(sign) * x[m.a + j]) % 4;
+        k += Blocks::of(m, j, kind).start(d);
+        kind = after(kind, d);
     }
     k
 }
@@ -211,19 +201,17 @@ fn low_number(a: usize, x: Element) -> u32
     requires { a ≤ 12 }
     ensures { result ≡ number (moduli a 0) x }
 {
-    let mut u: u32 = 0;
-    let mut i = a;
-    while 0 < i {
-        i -= 1;
-        u = 2 * u + wide(x[i] % 2);
+    let mut u = 0;
+    for i in (0..a).rev() {
+        u = 2 * u + u32::from(x[i] % 2);
     }
     u
 }
 
-// The index of `factor` times x among the elements of its sign.
-pub(crate) fn index_of(a: usize, b: usize, pairs: bool, factor: u8, x: Element) -> u32
-    requires { Signed a b pairs factor x }
-    ensures { (result < length (numbers pairs false (moduli a b))) × (element (moduli a b) (get_or (numbers pairs false (moduli a b)) result 0) ≡ times (moduli a b) factor x) }
+// The index of x among the elements of its sign.
+pub(crate) fn index_of(m: Moduli, sign: Sign, x: Element) -> u32
+    requires { Signed m.a m.b sign x }
+    ensures { (result < length (numbers (kind_of sign) (moduli m.a m.b))) × (standing sign (moduli m.a m.b) result ≡ x) }
 {
-    base(a, b, pairs, factor, x) + low_number(a, x)
+    base(m, sign, x) + low_number(m.a, x)
 }

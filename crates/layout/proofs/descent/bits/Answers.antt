@@ -9,8 +9,7 @@ pub loop-i-init : goal.loop-i-init
 loop-i-init c = record { up = omega arith; front = search rules; back = refl }
 
 pub loop-i-preserved : goal.loop-i-preserved
-loop-i-preserved c =
-    bits-step _ _ _ _ _ _ c.requires c.loop-i.invariant c.loop-i-test.true
+loop-i-preserved c = bits-step _ _ _ _ _ _ c.requires c.loop-i.invariant c.loop-i-test.true
 
 pub returns : goal.returns
 returns c = bits-end _ _ _ _ _ _ c.loop-i.invariant c.loop-i-test.false

@@ -1,10 +1,6 @@
 -- What the loop of `layout::descent::bits` keeps true.
-use Prim.Native.Nat.{◌-◌}
 use Rattle.blocks_theory.proofs.Descents.{LowBits}
 use Rattle.layout.proofs.descent.bits.Given as goal
 
 abbrev pub invariant-loop-i : goal.invariant-loop-i
 invariant-loop-i l = LowBits l.a l.k l.initial.r l.r l.left l.i
-
-abbrev pub decreases-loop-i : goal.decreases-loop-i
-decreases-loop-i l = l.a - l.i

@@ -1,7 +1,7 @@
 -- `layout::descent::low_number` meets its contract: the digits are read from the last binary one down. Assumes nothing.
 use borrow.Author.Rules.{rules}
-use mathlib.Core.Path.{◌≡◌, ap, ◌∙◌}
-use Prim.Native.Nat.{ℕ, ◌+◌, ◌-◌, ◌*◌, ◌%◌, ◌^◌, ◌<◌}
+use mathlib.Core.Path.{◌≡◌}
+use Prim.Native.Nat.{◌+◌, ◌-◌, ◌*◌, ◌%◌, ◌^◌, ◌<◌}
 use native.Mathlib.Omega.{arith}
 use lib.ListN.{get_or, drop}
 use Rattle.group_theory.specs.Group.{moduli, number}
@@ -29,14 +29,10 @@ overflow_mul-u c =
     omega (arith, (low_turn c.args.a c.args.x l.u l.i c.requires (search rules) c.loop-i-test.true l.invariant.0 l.invariant.1).1)
 
 pub overflow_add-u : goal.overflow_add-u
-overflow_add-u c = let t = turn (goal.at.overflow_add-u c).In-loop-i in omega (arith, t.0, t.1, c.wide.ensures)
+overflow_add-u c = let t = turn (goal.at.overflow_add-u c).In-loop-i in omega (arith, t.1, c.from.ensures)
 
 pub loop-i-preserved : goal.loop-i-preserved
-loop-i-preserved c = let t = turn (goal.at.loop-i-preserved c).In-loop-i in (omega arith, ap (λ (d : ℕ). 2 * c.loop-i.u + d) c.wide.ensures ∙ t.0)
+loop-i-preserved c = (omega arith, rw c.from.ensures (turn (goal.at.loop-i-preserved c).In-loop-i).0)
 
 pub returns : goal.returns
-returns c =
-    let g = c.args in
-    let l = c.loop-i in
-    let z : l.i ≡ 0 = omega arith in
-    l.invariant.1 ∙ ap (λ (j : ℕ). number (drop j (moduli g.a 0)) (drop j g.x)) z
+returns c = let z : c.loop-i.i ≡ 0 = omega arith in rw z at c.loop-i.invariant.1

@@ -7,6 +7,3 @@ use Rattle.layout.proofs.descent.low_number.Given as goal
 
 abbrev pub invariant-loop-i : goal.invariant-loop-i
 invariant-loop-i l = (l.i ≤ l.a) × (l.u ≡ number (drop l.i (moduli l.a 0)) (drop l.i l.x))
-
-abbrev pub decreases-loop-i : goal.decreases-loop-i
-decreases-loop-i l = l.i

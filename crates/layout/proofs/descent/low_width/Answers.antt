@@ -1,8 +1,0 @@
--- `layout::descent::low_width` meets its contract. Assumes nothing.
-use Rattle.layout.proofs.descent.low_width.Goals as goal
-
-pub returns-then-pairs : goal.returns-then-pairs
-returns-then-pairs c = rw c.if-pairs.true
-
-pub returns-else-pairs : goal.returns-else-pairs
-returns-else-pairs c = rw c.if-pairs.false
