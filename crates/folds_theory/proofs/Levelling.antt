@@ -1,22 +1,21 @@
 -- For the loop of `levels`: what is left of the sum over the numbers of sign 1 at each level. Assumes nothing.
 use mathlib.Core.Path.{◌≡◌, refl, sym, ap, ap₂, subst, ◌∙◌}
-use mathlib.Core.List.{List, [], ◌∷◌, ◌++◌}
+use mathlib.Core.List.{List, [], ◌∷◌, ◌++◌, append_assoc}
 use Prim.Native.Nat.{ℕ, zero, suc, ◌+◌, ◌-◌, ◌*◌, ◌/◌, ◌%◌, ◌^◌, ◌<◌, ◌≤◌}
 use native.Mathlib.Nat.{pow-succ', pow-le-pow_right}
 use native.Mathlib.Decide.{dec_lt}
 use native.Mathlib.Omega.{arith}
 use lib.ListN.{length, take, drop, set, length-set, length-append}
 use lib.Pow.{pow_mono}
-use lib.Seq.{paste, length-paste, take-paste, drop-paste, take_all, drop-cons, drop-set-lt, drop-drop, append_snoc, lt-length-set, get_or-set_same}
-use Rattle.group_theory.specs.Group.{Modulus, four, moduli, sum, times, element, size}
-use Rattle.group_theory.specs.Weights.{weigh_on, shifted, added, total}
-use Rattle.group_theory.proofs.Fill.{sum-mod}
+use lib.Seq.{take_at, length-take-le, drop-cons, drop-set-lt, append_snoc, lt-length-set, get_or-set_same}
+use Rattle.group_theory.specs.Group.{Modulus, moduli, sum, times, element, size}
+use Rattle.group_theory.specs.Weights.{weigh_on, shifted, total}
 use Rattle.group_theory.proofs.Unit.{size-in-use}
 use Rattle.blocks_theory.specs.Blocks as blocks
 use Rattle.blocks_theory.specs.Blocks.{level, even_to}
 use Rattle.blocks_theory.proofs.Blocks.{next, plus-blocks, low-blocks}
 use Rattle.blocks_theory.proofs.Levels.{below-plus, below-low, level-next, level-none, plus_none, size-next, even-next, level-counts, size-twos}
-use Rattle.folds_theory.specs.Folds.{widest, room, Holds, stretch, twice, both, next_plus, plus_tops, next_low, low_tops, stride, Doubling, Halved}
+use Rattle.folds_theory.specs.Folds.{widest, room, Holds, twice, both, next_plus, plus_tops, next_low, low_tops, stride, Doubling, Halved}
 use Rattle.folds_theory.proofs.Twice.{length-twice, below-twice, twice_two, twice-four, low-two}
 use Rattle.folds_theory.proofs.Offs.{four-lengths, level-off, length-plus, length-low}
 use Rattle.folds_theory.proofs.Halving.{last-two, stride-two}
@@ -110,37 +109,6 @@ module _ (ms : List Modulus) where
       ap twice (low-blocks ms)
       ∙ twice-four (size ms * 0) (size ms * 1) (size ms * 2) (size ms * 3) (blocks.low ms) (blocks.low ms) (blocks.low ms) (blocks.plus ms)
 
--- ---- what a loop has written
--- the front written, the rest as it was
-pub front_of : (g s : List ℕ) (p : ℕ) → length g ≡ p → (take p (paste s 0 g p) ≡ g) × (drop p (paste s 0 g p) ≡ drop p s)
-front_of g s p l =
-    let e : 0 + p ≡ p = omega arith in (
-      subst (λ (k : ℕ). take k (paste s 0 g p) ≡ g) e (take-paste s 0 g p (omega arith) (omega arith) ∙ take_all p g (omega arith)),
-      subst (λ (k : ℕ). drop k (paste s 0 g p) ≡ drop k s) e (drop-paste s 0 g p (omega arith) (omega arith)),
-    )
-
--- what stands behind it
-pub stretch-behind : (p k n : ℕ) (v w : List ℕ) → p ≤ k → drop p w ≡ drop p v → stretch k n w ≡ stretch k n v
-stretch-behind p k n v w h e =
-    let z : p + (k - p) ≡ k = omega arith in
-    let d : drop k w ≡ drop k v =
-    ap (λ (i : ℕ). drop i w) (sym z) ∙ sym (drop-drop (k - p) p w) ∙ ap (drop (k - p)) e ∙ drop-drop (k - p) p v ∙ ap (λ (i : ℕ). drop i v) z in
-    ap (take n) d
-
-module _ (p m : ℕ) (v w : List ℕ) (e : drop p w ≡ drop p v) where
-  low-behind : next_low p m w ≡ next_low p m v
-  unfolding next_low
-  low-behind =
-      ap₂ added
-      (ap₂ added (stretch-behind p p m v w (omega arith) e) (stretch-behind p (3 * p + m) m v w (omega arith) e))
-      (ap₂ added (stretch-behind p (3 * p + m + m) m v w (omega arith) e) (stretch-behind p (3 * p + m + 2 * m) m v w (omega arith) e))
-
-  tops-behind : low_tops p m w ≡ low_tops p m v
-  unfolding low_tops
-  tops-behind =
-      let y : stretch (3 * p + m + 2 * m) m w ≡ stretch (3 * p + m + 2 * m) m v = stretch-behind p (3 * p + m + 2 * m) m v w (omega arith) e in
-      ap₂ added (stretch-behind p p m v w (omega arith) e) (ap₂ added (stretch-behind p (3 * p + m + m) m v w (omega arith) e) (ap₂ added y y))
-
 -- a component written in front of those that are there
 pub drop-written : (r : List ℕ) (i d : ℕ) → i < length r → drop i (set r i d) ≡ d ∷ drop (suc i) r
 drop-written r i d h =
@@ -201,12 +169,12 @@ round a b top v₀ x v r n e (suc j) f h =
       some = omega arith;
     })
 
-pub levelling-step : (a b top : ℕ) (v₀ x v r : List ℕ) (n e j : ℕ) → Levelling a b top v₀ x v r n e j → 0 < j → (c d : ℕ) (u w : List ℕ)
-    → (c ≡ total (plus_tops (n / 4 - e / 2) (n / 4 + e / 2) v) % 4) × (u ≡ paste v 0 (next_plus (n / 4 - e / 2) (n / 4 + e / 2) v) (n / 4 - e / 2))
-    → (d ≡ total (low_tops (n / 4 - e / 2) (n / 4 + e / 2) u) % 4) × (w ≡ paste u (n / 4 - e / 2) (next_low (n / 4 - e / 2) (n / 4 + e / 2) u) (n / 4 + e / 2))
-    → length w ≡ length v → Levelling a b top v₀ x w (set r (a + (j - 1)) ((c + d) % 4)) (n / 4) (e / 2) (j - 1)
-levelling-step a b top v₀ x v r n e zero f h c d u w g k l = absurd (omega arith)
-levelling-step a b top v₀ x v r n e (suc j) f h c d u w g k l =
+pub levelling-step : (a b top : ℕ) (v₀ x v r : List ℕ) (n e j : ℕ) → Levelling a b top v₀ x v r n e j → 0 < j → (c : ℕ) (w : List ℕ)
+    → (c ≡ (total (plus_tops (n / 4 - e / 2) (n / 4 + e / 2) v) + total (low_tops (n / 4 - e / 2) (n / 4 + e / 2) v)) % 4)
+    × (w ≡ next_plus (n / 4 - e / 2) (n / 4 + e / 2) v ++ (next_low (n / 4 - e / 2) (n / 4 + e / 2) v ++ drop (n / 4 - e / 2 + (n / 4 + e / 2)) v))
+    → length w ≡ length v → Levelling a b top v₀ x w (set r (a + (j - 1)) c) (n / 4) (e / 2) (j - 1)
+levelling-step a b top v₀ x v r n e zero f h c w g l = absurd (omega arith)
+levelling-step a b top v₀ x v r n e (suc j) f h c w g l =
     let few = f.holds.few in
     let en = f.holds.enough in
     let under = f.under in
@@ -227,17 +195,12 @@ levelling-step a b top v₀ x v r n e (suc j) f h c d u w g k l =
     let off = level-off ms X Y (twice (blocks.plus (next ms))) (twice (blocks.low (next ms))) p m B.0 B.1
     (below-twice (size ms) (blocks.plus ms) (below-plus ms)) (below-twice (size ms) (blocks.low ms) (below-low ms)) (plus-twice ms) (low_twice ms) v v4 in
     let lp : length (next_plus p m v) ≡ p = length-plus p m v v4 in
-    let F = front_of (next_plus p m v) v p lp in
-    let tu : take p u ≡ next_plus p m v = ap (take p) g.1 ∙ F.0 in
-    let du : drop p u ≡ drop p v = ap (drop p) g.1 ∙ F.1 in
-    let nl : next_low p m u ≡ next_low p m v = low-behind p m v u du in
-    let ll : length (next_low p m u) ≡ m = ap length nl ∙ length-low p m v v4 in
-    let lu : length u ≡ length v = ap length g.1 ∙ length-paste v 0 (next_plus p m v) p (omega arith) (omega arith) in
+    let ll : length (next_low p m v) ≡ m = length-low p m v v4 in
+    let lf : length (next_plus p m v ++ next_low p m v) ≡ p + m = length-append (next_plus p m v) (next_low p m v) ∙ ap₂ ◌+◌ lp ll in
     let tw : take (p + m) w ≡ next_plus p m v ++ next_low p m v =
-    ap (take (p + m)) k.1 ∙ take-paste u p (next_low p m u) m (omega arith) (omega arith) ∙ ap₂ {C = List ℕ} ◌++◌ tu (take_all m (next_low p m u) (omega arith) ∙ nl) in
-    let cd : (c + d) % 4 ≡ (total (plus_tops p m v) + total (low_tops p m v)) % 4 =
-    ap₂ (λ (s t : ℕ). (s + t) % 4) g.0 (k.0 ∙ ap (λ (y : List ℕ). total y % 4) (tops-behind p m v u du)) ∙ sum-mod four (total (plus_tops p m v)) (total (low_tops p m v)) in
-    let D : drop (a + j) (set r (a + j) ((c + d) % 4)) ≡ (c + d) % 4 ∷ drop (suc (a + j)) r = drop-written r (a + j) ((c + d) % 4) (omega arith) in
+    ap (take (p + m)) (g.1 ∙ sym (append_assoc (next_plus p m v) (next_low p m v) (drop (p + m) v)))
+    ∙ take_at (next_plus p m v ++ next_low p m v) (drop (p + m) v) (p + m) lf in
+    let D : drop (a + j) (set r (a + j) c) ≡ c ∷ drop (suc (a + j)) r = drop-written r (a + j) c (omega arith) in
     let lb : length (X ++ Y) ≡ p + m = length-append X Y ∙ ap₂ ◌+◌ B.0 B.1 in
     let sa : a + suc j ≡ suc (a + j) = omega arith in
     let lb4 : length (twice (blocks.plus (next ms)) ++ twice (blocks.low (next ms))) ≤ 4 * p + 4 * m = whole_length ms p m B.0 B.1 in
@@ -246,12 +209,12 @@ levelling-step a b top v₀ x v r n e (suc j) f h c d u w g k l =
       holds = f.holds;
       under = under;
       within = omega arith;
-      full = length-set r (a + j) ((c + d) % 4) ∙ fu;
+      full = length-set r (a + j) c ∙ fu;
       count = R.count;
       evens = R.evens;
       long = l ∙ lo;
       left = ap₂ (λ (y t : List ℕ). y ++ t) (sym (on-take ms (X ++ Y) w (p + m) (omega arith)) ∙ ap (weigh_on ms (X ++ Y)) tw) D
-          ∙ ap (λ (t : ℕ). weigh_on ms (X ++ Y) (next_plus p m v ++ next_low p m v) ++ t ∷ drop (suc (a + j)) r) cd
+          ∙ ap (λ (t : ℕ). weigh_on ms (X ++ Y) (next_plus p m v ++ next_low p m v) ++ t ∷ drop (suc (a + j)) r) g.0
           ∙ sym (append_snoc (weigh_on ms (X ++ Y) (next_plus p m v ++ next_low p m v)) ((total (plus_tops p m v) + total (low_tops p m v)) % 4) (drop (suc (a + j)) r))
           ∙ ap (λ (y : List ℕ). y ++ drop (suc (a + j)) r) (sym off ∙ on-take (next ms) (twice (blocks.plus (next ms)) ++ twice (blocks.low (next ms))) v (4 * p + 4 * m) lb4)
           ∙ ap₂ (λ (y : List Modulus) (t : ℕ). weigh_on y (twice (blocks.plus y) ++ twice (blocks.low y)) v ++ drop t r) (sym L) (sym sa)
@@ -284,7 +247,7 @@ low-doubles a b h =
         ∙ ap (λ (y : ℕ). shifted (size ms * 0) (twice (blocks.low ms)) ++ shifted (size ms * y) (twice (blocks.low ms))) (sym (stride-two a i k))
 
 pub levelling-asks : (a b top : ℕ) (v₀ x v r : List ℕ) (n e j : ℕ) → Levelling a b top v₀ x v r n e j → j ≤ 0
-    → (a + b ≤ 12) × (a ≤ a + b) × (0 + 2 * n ≤ length v) × (length v ≤ room)
+    → (a + b ≤ 12) × (a ≤ a + b) × (2 * n ≤ length v)
 levelling-asks a b top v₀ x v r n e (suc j) f h = absurd (omega arith)
 levelling-asks a b top v₀ x v r n e zero f h =
     let few = f.holds.few in
@@ -294,13 +257,13 @@ levelling-asks a b top v₀ x v r n e zero f h =
     let lo = f.long in
     let s = size-next a b (twelve a b few) 0 (omega arith) in
     let q = size_fits a b few 1 (omega arith) in
-    (twelve a b few, omega arith, omega arith, omega arith)
+    (twelve a b few, omega arith, omega arith)
 
-pub levelling-done : (a b top : ℕ) (v₀ x v r : List ℕ) (n e j : ℕ) → Levelling a b top v₀ x v r n e j → j ≤ 0 → (y : List ℕ) → Halved a b a 0 (2 * n) v r y
-    → y ≡ weigh_on (level a b top) (both a b top) v₀ ++ drop (a + top) x
+pub levelling-done : (a b top : ℕ) (v₀ x v r : List ℕ) (n e j : ℕ) → Levelling a b top v₀ x v r n e j → j ≤ 0 → (s y : List ℕ) → s ≡ take (2 * n) v
+    → Halved a b a s r y → y ≡ weigh_on (level a b top) (both a b top) v₀ ++ drop (a + top) x
 unfolding twice
-levelling-done a b top v₀ x v r n e (suc j) f h y g = absurd (omega arith)
-levelling-done a b top v₀ x v r n e zero f h y g =
+levelling-done a b top v₀ x v r n e (suc j) f h s y es g = absurd (omega arith)
+levelling-done a b top v₀ x v r n e zero f h s y es g =
     let few = f.holds.few in
     let co = f.count in
     let z : a + 0 ≡ a = omega arith in
@@ -309,8 +272,9 @@ levelling-done a b top v₀ x v r n e zero f h y g =
     let nothing : both a b 0 ≡ twice (blocks.low ms) = ap (λ (t : List ℕ). twice t ++ twice (blocks.low ms)) (plus_none a b) ∙ none (twice (blocks.low ms)) in
     let l0 : length (L (a + 0)) ≡ 2 * n = sym (ap length nothing) ∙ length_both a b few 0 (omega arith) ∙ ap (λ (t : ℕ). 2 * t) (sym co) in
     let l1 : length (L a) ≡ 2 * n = subst (λ (t : ℕ). length (L t) ≡ 2 * n) z l0 in
-    g L (low-doubles a b (twelve a b few)) l1
-    ∙ ap (λ (t : ℕ). weigh_on (take t (moduli a b)) (L t) (stretch 0 (2 * n) v) ++ drop t r) (sym z)
+    let ls : length s ≡ 2 * n = ap length es ∙ length-take-le (2 * n) v (levelling-asks a b top v₀ x v r n e zero f h).2 in
+    g L (low-doubles a b (twelve a b few)) (l1 ∙ sym ls)
+    ∙ ap₂ (λ (t : ℕ) (u : List ℕ). weigh_on (take t (moduli a b)) (L t) u ++ drop t r) (sym z) es
     ∙ ap (λ (t : List ℕ). t ++ drop (a + 0) r) (on-take ms (L (a + 0)) v (2 * n) (omega arith) ∙ ap (λ (t : List ℕ). weigh_on ms t v) (sym nothing))
     ∙ f.left
   where

@@ -2,19 +2,19 @@
 use mathlib.Core.Path.{◌≡◌, refl, sym, ap, ap₂, subst, ◌∙◌}
 use mathlib.Core.Bool.{Bool, true, false, ◌&&◌}
 use mathlib.Core.List.{List, [], ◌∷◌, ◌++◌}
-use Prim.Native.Nat.{ℕ, zero, suc, ◌+◌, ◌-◌, ◌*◌, ◌/◌, ◌%◌, ◌^◌, ◌<◌, ◌≤◌}
+use Prim.Native.Nat.{ℕ, zero, suc, ◌+◌, ◌-◌, ◌*◌, ◌%◌, ◌^◌, ◌<◌, ◌≤◌}
 use native.Mathlib.Decide.{dec_lt, dec_le}
 use native.Mathlib.Omega.{arith}
 use borrow.Author.Tests.{le-leb, lt-leb}
 use lib.Dec.{leb}
 use lib.Pow.{pow_mono, pow-lt}
 use lib.ListN.{length, take, drop, set, length-append, take-append-drop}
-use lib.Seq.{paste, take-add, append_snoc, length-take-le}
+use lib.Seq.{take_at, drop_at, take-add, append_snoc, length-take-le}
 use Rattle.std.specs.Cmp.Derive.{both_true}
-use Rattle.group_theory.specs.Group.{Modulus, four, moduli, zeros, sum, size}
+use Rattle.group_theory.specs.Group.{Modulus, moduli, zeros, sum, size}
 use Rattle.group_theory.specs.Weights.{weigh_on, shifted, total, Below}
 use Rattle.group_theory.proofs.Laws.{sum_comm}
-use Rattle.group_theory.proofs.Fill.{length-moduli, length-zeros, sum-mod}
+use Rattle.group_theory.proofs.Fill.{length-moduli, length-zeros}
 use Rattle.group_theory.proofs.Unit.{size-in-use}
 use Rattle.group_theory.proofs.Weights.{on-append, on-behind}
 use Rattle.blocks_theory.specs.Blocks as blocks
@@ -25,9 +25,9 @@ use Rattle.blocks_theory.proofs.Members.{plus-all, even-all}
 use Rattle.blocks_theory.proofs.Splits.{even_power}
 use Rattle.folds_theory.specs.Folds.{widest, room, Holds, stretch, twice, both, weight_order, weighted_for, first_plus, first_tops, stride, Doubling, Halved}
 use Rattle.folds_theory.proofs.Twice.{below-twice, even-two}
-use Rattle.folds_theory.proofs.Offs.{four-lengths, first_off, length-first-plus}
+use Rattle.folds_theory.proofs.Offs.{four-lengths, first_off, length-first-plus, length-stretch}
 use Rattle.folds_theory.proofs.Halving.{last-two, last-four, stride-two, stride-four}
-use Rattle.folds_theory.proofs.Levelling.{on-take, holds-within, holds-power, holds-room, twelve, size-level, size_fits, blocks_at, plus-twice, low_twice, front_of, stretch-behind, drop-written}
+use Rattle.folds_theory.proofs.Levelling.{on-take, holds-within, holds-power, holds-room, twelve, size-level, size_fits, blocks_at, plus-twice, low_twice, drop-written}
 
 zeros-drop : (i : ℕ) (ms : List Modulus) → zeros (drop i ms) ≡ drop i (zeros ms)
 unfolding zeros
@@ -69,12 +69,11 @@ first a b n e few some x y =
         let n = size-next a b (twelve a b few) (b - 1) (omega arith) in
         omega arith
 
-pub pairs-done : (a b n e : ℕ) → First a b n e → (v u y : List ℕ) (c d : ℕ) → size (moduli a b) ≤ length v
-    → (c ≡ total (first_tops (n - e) (n + e) v) % 4) × (u ≡ paste v 0 (first_plus (n - e) (n + e) v) (n - e)) → d ≡ total (stretch (n - e) (n + e) u) % 4
-    → (x : List ℕ) → x ≡ zeros (moduli a b)
-    → y ≡ weigh_on (level a b (b - 1)) (both a b (b - 1)) u ++ drop (a + (b - 1)) (set x (a + (b - 1)) ((c + d) % 4))
+pub pairs-done : (a b n e : ℕ) → First a b n e → (v u y : List ℕ) (c : ℕ) → size (moduli a b) ≤ length v
+    → (c ≡ (total (first_tops (n - e) (n + e) v) + total (stretch (n - e) (n + e) v)) % 4) × (u ≡ first_plus (n - e) (n + e) v ++ drop (n - e) v)
+    → (x : List ℕ) → x ≡ zeros (moduli a b) → y ≡ weigh_on (level a b (b - 1)) (both a b (b - 1)) u ++ drop (a + (b - 1)) (set x (a + (b - 1)) c)
     → y ≡ weigh_on (moduli a b) (twice (blocks.plus (moduli a b))) v
-pairs-done a b n e f v u y c d l g k x o h =
+pairs-done a b n e f v u y c l g x o h =
     let few = f.few in
     let some = f.some in
     let fits = f.fits in
@@ -90,15 +89,11 @@ pairs-done a b n e f v u y c d l g k x o h =
     let off = first_off ms X Y (twice (blocks.plus (next ms))) (twice (blocks.low (next ms))) p m B.0 B.1
     (below-twice (size ms) (blocks.plus ms) (below-plus ms)) (below-twice (size ms) (blocks.low ms) (below-low ms)) (plus-twice ms) (low_twice ms) v v4 in
     let lp : length (first_plus p m v) ≡ p = length-first-plus p m v v4 in
-    let F = front_of (first_plus p m v) v p lp in
-    let tu : take p u ≡ first_plus p m v = ap (take p) g.1 ∙ F.0 in
-    let du : drop p u ≡ drop p v = ap (drop p) g.1 ∙ F.1 in
-    let su : stretch p m u ≡ stretch p m v = stretch-behind p p m v u (omega arith) du in
-    let tw : take (p + m) u ≡ first_plus p m v ++ stretch p m v = take-add p m u ∙ ap₂ {C = List ℕ} ◌++◌ tu su in
-    let cd : (c + d) % 4 ≡ (total (first_tops p m v) + total (stretch p m v)) % 4 =
-    ap₂ (λ (s t : ℕ). (s + t) % 4) g.0 (k ∙ ap (λ (t : List ℕ). total t % 4) su) ∙ sum-mod four (total (first_tops p m v)) (total (stretch p m v)) in
+    let tu : take p u ≡ first_plus p m v = ap (take p) g.1 ∙ take_at (first_plus p m v) (drop p v) p lp in
+    let du : drop p u ≡ drop p v = ap (drop p) g.1 ∙ drop_at (first_plus p m v) (drop p v) p lp in
+    let tw : take (p + m) u ≡ first_plus p m v ++ stretch p m v = take-add p m u ∙ ap₂ {C = List ℕ} ◌++◌ tu (ap (take m) du) in
     let lz : length x ≡ 12 = ap length o ∙ length-zeros (moduli a b) ∙ length-moduli a b in
-    let D : drop (a + j) (set x (a + j) ((c + d) % 4)) ≡ (c + d) % 4 ∷ drop (suc (a + j)) x = drop-written x (a + j) ((c + d) % 4) (omega arith) in
+    let D : drop (a + j) (set x (a + j) c) ≡ c ∷ drop (suc (a + j)) x = drop-written x (a + j) c (omega arith) in
     let lb : length (X ++ Y) ≡ p + m = length-append X Y ∙ ap₂ ◌+◌ B.0 B.1 in
     let L : level a b b ≡ next ms = subst (λ (i : ℕ). level a b i ≡ next ms) z (level-next a b j (twelve a b few) (omega arith)) in
     let sa : suc (a + j) ≡ a + b = omega arith in
@@ -108,7 +103,7 @@ pairs-done a b n e f v u y c d l g k x o h =
     let t = ap length (plus-twice ms) ∙ four-lengths (size ms) X Y X X in omega arith in
     h
     ∙ ap₂ (λ (s t : List ℕ). s ++ t) (sym (on-take ms (X ++ Y) u (p + m) (omega arith)) ∙ ap (weigh_on ms (X ++ Y)) tw) D
-    ∙ ap (λ (t : ℕ). weigh_on ms (X ++ Y) (first_plus p m v ++ stretch p m v) ++ t ∷ drop (suc (a + j)) x) cd
+    ∙ ap (λ (t : ℕ). weigh_on ms (X ++ Y) (first_plus p m v ++ stretch p m v) ++ t ∷ drop (suc (a + j)) x) g.0
     ∙ sym (append_snoc (weigh_on ms (X ++ Y) (first_plus p m v ++ stretch p m v)) ((total (first_tops p m v) + total (stretch p m v)) % 4) (drop (suc (a + j)) x))
     ∙ ap (λ (t : List ℕ). t ++ drop (suc (a + j)) x) (sym off ∙ on-take (next ms) (twice (blocks.plus (next ms))) v (3 * p + m) lx)
     ∙ ap₂ (λ (s : List Modulus) (t : ℕ). weigh_on s (twice (blocks.plus s)) v ++ drop t x) (sym L) sa
@@ -154,10 +149,16 @@ module _ (a b n e : ℕ) (f : Shares a b n e) (v : List ℕ) (l : size (moduli a
   abbrev X : List ℕ
   X = twice (blocks.plus ms)
 
-  singles-sum : (x none : List ℕ) → none ≡ zeros ms → Halved a b (a + b) (n - e) e v none x → x ≡ weigh_on ms (blocks.even ms) (drop (n - e) v)
-  singles-sum x none o g =
+  singles-sum : (s x none : List ℕ) → none ≡ zeros ms → s ≡ take (n - (n - e)) (drop (n - e) v) → Halved a b (a + b) s none x → x ≡ weigh_on ms (blocks.even ms) (drop (n - e) v)
+  singles-sum s x none o es g =
       let ev = f.evens in
-      g (λ i. blocks.even (take i ms)) (evens-double a b (twelve a b f.few)) ev
+      let fe = f.fewer in
+      let fi = f.fits in
+      let ne : n - (n - e) ≡ e = omega arith in
+      let te : s ≡ stretch (n - e) e v = es ∙ ap (λ (k : ℕ). take k (drop (n - e) v)) ne in
+      let ls : length s ≡ e = ap length te ∙ length-stretch (n - e) e v (omega arith) in
+      g (λ i. blocks.even (take i ms)) (evens-double a b (twelve a b f.few)) (ev ∙ sym ls)
+      ∙ ap (λ (t : List ℕ). weigh_on (level a b b) (blocks.even (level a b b)) t ++ drop (a + b) none) te
       ∙ ap₂ (λ (s t : List ℕ). s ++ drop (a + b) t) (on-take (level a b b) (blocks.even (level a b b)) (drop (n - e) v) e (omega arith)) o
       ∙ unused a b (blocks.even (level a b b)) (drop (n - e) v) (below-even (level a b b))
       ∙ ap (λ (t : List ℕ). weigh_on ms t (drop (n - e) v)) (even-all a b)
@@ -173,24 +174,28 @@ module _ (a b n e : ℕ) (f : Shares a b n e) (v : List ℕ) (l : size (moduli a
       ∙ on-append ms X (blocks.even ms) (take (n - e) v) (drop (n - e) v) k
       ∙ ap (λ (t : List ℕ). sum ms t (weigh_on ms (blocks.even ms) (drop (n - e) v))) (on-take ms X v (n - e) (omega arith))
 
-  pub both-sum : (w x y z none : List ℕ) → none ≡ zeros ms → Halved a b (a + b) (n - e) e v none x → take (n - e) w ≡ take (n - e) v
+  -- s is the part of v with the weights of sign 0, and w what v becomes
+  pub both-sum : (s w x y z none u : List ℕ) → none ≡ zeros ms → s ≡ take (n - (n - e)) (drop (n - e) v) → Halved a b (a + b) s none x → w ≡ take (n - e) v ++ u
       → y ≡ weigh_on ms X w → z ≡ sum ms x y → z ≡ weigh_on ms (weight_order ms) v
-  both-sum w x y z none o g t h k =
+  both-sum s w x y z none u o es g ew h k =
       let p = f.pairs in
+      let fe = f.fewer in
+      let fi = f.fits in
+      let t : take (n - e) w ≡ take (n - e) v = ap (take (n - e)) ew ∙ take_at (take (n - e) v) u (n - e) (length-take-le (n - e) v (omega arith)) in
       let q : y ≡ weigh_on ms X v = h ∙ sym (on-take ms X w (n - e) (omega arith)) ∙ ap (weigh_on ms X) t ∙ on-take ms X v (n - e) (omega arith) in
-      k ∙ ap₂ (sum ms) (singles-sum x none o g) q ∙ sum_comm ms (weigh_on ms (blocks.even ms) (drop (n - e) v)) (weigh_on ms X v) ∙ sym order-sum
+      k ∙ ap₂ (sum ms) (singles-sum s x none o es g) q ∙ sum_comm ms (weigh_on ms (blocks.even ms) (drop (n - e) v)) (weigh_on ms X v) ∙ sym order-sum
 
 -- without quaternary components there are none of sign 1
-pub singles-only : (a b n e : ℕ) → Shares a b n e → b ≡ 0 → n ≡ 2 ^ (a + 2 * b) → e ≡ 2 ^ (a + b) → (v x none : List ℕ) → size (moduli a b) ≤ length v
-    → none ≡ zeros (moduli a b) → Halved a b (a + b) (n - e) e v none x → x ≡ weigh_on (moduli a b) (weight_order (moduli a b)) v
+pub singles-only : (a b n e : ℕ) → Shares a b n e → b ≡ 0 → n ≡ 2 ^ (a + 2 * b) → e ≡ 2 ^ (a + b) → (v s x none : List ℕ) → size (moduli a b) ≤ length v
+    → none ≡ zeros (moduli a b) → s ≡ take (n - (n - e)) (drop (n - e) v) → Halved a b (a + b) s none x → x ≡ weigh_on (moduli a b) (weight_order (moduli a b)) v
 unfolding weight_order twice
-singles-only a b n e f z p q v x none l o g =
+singles-only a b n e f z p q v s x none l o es g =
     let ms = moduli a b in
     let h = f.pairs in
     let y : a + 2 * b ≡ a + b = omega arith in
     let t : n ≡ e = p ∙ ap (λ (k : ℕ). 2 ^ k) y ∙ sym q in
     let k : n - e ≡ 0 = omega arith in
-    singles-sum a b n e f v l x none o g
+    singles-sum a b n e f v l s x none o es g
     ∙ ap (λ (t : ℕ). weigh_on ms (blocks.even ms) (drop t v)) k
     ∙ ap (λ (t : List ℕ). weigh_on ms (t ++ blocks.even ms) v) (sym (nothing (twice (blocks.plus ms)) (omega arith)))
   where

@@ -96,7 +96,7 @@ pub record Doubling (a b top : ℕ) (L : ℕ → List ℕ) : Type 0 where
   pub below : (i : ℕ) → i ≤ top → Below (size (take i (moduli a b))) (L i)
   pub grows : (i : ℕ) → i < top → L (suc i) ≡ shifted (size (take i (moduli a b)) * 0) (L i) ++ shifted (size (take i (moduli a b)) * stride a i) (L i)
 
--- r is the sum over such a list of n numbers, with the n weights from `start` on, in the first `top` components, and x in the others
-abbrev pub Halved : ℕ → ℕ → ℕ → ℕ → ℕ → List ℕ → List ℕ → List ℕ → Type 0
-Halved a b top start n v x r =
-    (L : ℕ → List ℕ) → Doubling a b top L → length (L top) ≡ n → r ≡ weigh_on (take top (moduli a b)) (L top) (stretch start n v) ++ drop top x
+-- r is the sum over such a list, with a weight in v for each number, in the first `top` components, and x in the others
+abbrev pub Halved : ℕ → ℕ → ℕ → List ℕ → List ℕ → List ℕ → Type 0
+Halved a b top v x r =
+    (L : ℕ → List ℕ) → Doubling a b top L → length (L top) ≡ length v → r ≡ weigh_on (take top (moduli a b)) (L top) v ++ drop top x

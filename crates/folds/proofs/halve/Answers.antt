@@ -1,18 +1,13 @@
 -- `folds::halve` meets its contract. Assumes nothing.
-use Rattle.std.proofs.Common.{refl}
-use Rattle.folds_theory.proofs.Gathers.{halve-start, halve-step, halve-length, gather-done}
+use Rattle.std.proofs.Common.{arith}
+use Rattle.folds_theory.proofs.Gathers.{halve-start, halve-step, halve-done}
 use Rattle.folds.proofs.halve.Goals as goal
 
 pub loop-i-init : goal.loop-i-init
-loop-i-init c = halve-start _ _ _ c.requires.0
+loop-i-init c = halve-start _ _ (omega arith)
 
 pub loop-i-preserved : goal.loop-i-preserved
-loop-i-preserved c =
-    halve-step _ _ _ c.requires.0 _ _ _ _ c.loop-i.invariant c.loop-i-test.true refl
+loop-i-preserved c = halve-step _ _ (omega arith) _ _ _ c.loop-i.invariant c.loop-i-test.true
 
 pub returns : goal.returns
-returns c =
-    record {
-      sum = (gather-done _ _ _ _ _ _ _ _ c.loop-i.invariant c.loop-i-test.false (halve-length _ _ _ c.requires.0)).0;
-      left = (gather-done _ _ _ _ _ _ _ _ c.loop-i.invariant c.loop-i-test.false (halve-length _ _ _ c.requires.0)).1;
-    }
+returns c = let d = halve-done _ _ (omega arith) _ _ _ c.loop-i.invariant c.loop-i-test.false in record { sum = d.0; left = d.1 }

@@ -1,14 +1,10 @@
 -- `folds::total` meets its contract. Assumes nothing.
-use Rattle.std.proofs.Common.{refl}
-use Rattle.folds_theory.proofs.Gathers.{total-start, total-step, total-done}
+use Rattle.std.proofs.Common.{rules, ◌≡◌, ℕ, ◌+◌, ◌%◌, ◌^◌, ap, ◌∙◌, arith}
+use Rattle.std.specs.List.{fold}
+use Rattle.folds_theory.proofs.Gathers.{total-fold}
 use Rattle.folds.proofs.total.Goals as goal
 
-pub loop-i-init : goal.loop-i-init
-loop-i-init c = total-start _ _ _ c.requires.0
-
-pub loop-i-preserved : goal.loop-i-preserved
-loop-i-preserved c =
-    total-step _ _ _ c.requires.0 _ _ _ c.loop-i.invariant c.loop-i-test.true refl
-
 pub returns : goal.returns
-returns c = total-done _ _ _ c.requires.0 _ _ c.loop-i.invariant c.loop-i-test.false
+returns c =
+    let e : c.fold.result ≡ fold (λ k x. (k + x) % 2 ^ 8) 0 c.args.v.now = search rules in
+    ap (λ (k : ℕ). k % 4) e ∙ total-fold 0 c.args.v.now ∙ ap (λ (k : ℕ). k % 4) (omega arith)

@@ -1,6 +1,6 @@
 -- `folds::within` meets its contract. Assumes nothing.
-use Rattle.std.proofs.Common.{rules, arith, ◌≡◌, ◌≤◌, ◌↔◌, ◌^◌, ◌+◌, ◌*◌, IsTrue, subst}
-use Rattle.folds_theory.specs.Folds.{room, Holds}
+use Rattle.std.proofs.Common.{rules, arith, ◌≤◌, ◌↔◌, IsTrue}
+use Rattle.folds_theory.specs.Folds.{room}
 use Rattle.folds_theory.proofs.Levelling.{holds-power, holds-room}
 use Rattle.folds.proofs.within.Goals as goal
 
