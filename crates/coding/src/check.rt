@@ -7,7 +7,6 @@ ghost use Rattle.words_theory.specs.Syndrome.{syndrome_over};
 ghost use Rattle.words_theory.specs.Coding.{check_digits};
 ghost use Rattle.loops_theory.specs.Passing.{BitsIn, BadIn};
 
-use crate::bits;
 use group::{Element, Moduli};
 
 // The sum of the check places: it is the element with these digits. Nothing where a byte is above 1.
@@ -16,17 +15,22 @@ pub(crate) fn read(m: Moduli, check: &[u8]) -> Option<Element>
     ensures { MatchOption result (BadIn check.now 0 (length check.now)) (λ x. BitsIn check.now 0 (length check.now) × (x ≡ syndrome_over (moduli m.a m.b) (units (moduli m.a m.b)) check.now)) }
 {
     let mut e = [0u8; 12];
+    let mut most: u8 = 0;
     let mut at: usize = 0;
     for i in 0..m.a + m.b {
+        let x = check[at];
         if i < m.a {
-            e[i] = check[at] % 2;
+            e[i] = x % 2;
+            most = most.max(x);
             at += 1;
         } else {
-            e[i] = gray::digit(check[at], check[at + 1]);
+            let y = check[at + 1];
+            e[i] = gray::digit(x, y);
+            most = most.max(x).max(y);
             at += 2;
         }
     }
-    bits::bits(check).then_some(e)
+    if most <= 1 { Some(e) } else { None }
 }
 
 // Writes the check digits of an element over the front of an output.

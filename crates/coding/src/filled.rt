@@ -3,11 +3,9 @@
 ghost use Rattle.std.specs.Prelude.{◌≡◌, ◌+◌, ◌-◌, ◌/◌, ◌%◌, ◌<◌, ◌≤◌, true, false, ◌∷◌, length, drop, ◌==◌};
 ghost use Rattle.layout_theory.specs.Choice.{pick};
 ghost use Rattle.folds_theory.specs.Folds.{room};
-ghost use Rattle.shortened_theory.specs.Code.{fill};
 ghost use Rattle.loops_theory.specs.Spread.{row};
 ghost use Rattle.loops_theory.specs.Passing.{Highest, Says};
-
-use crate::bits;
+ghost use Rattle.coding.specs.Laid.{filled};
 
 // The word and how many places are left out in front of it.
 #[derive(Clone, Copy)]
@@ -17,19 +15,20 @@ pub(crate) struct Filled<'a> {
 }
 
 impl Filled<'_> {
-    // How many places are left out: a constant where it is none, so that nothing of the cutting is compiled.
-    pub(crate) fn left_out<const CUT: bool>(&self) -> usize
-        requires { CUT ≡ false → self.now.d ≡ 0 }
-        ensures { result ≡ self.now.d }
+    // The same, with a constant where no place is left out, so that nothing of the cutting is compiled.
+    pub(crate) fn cut<const CUT: bool>(self) -> Self
+        requires { CUT ≡ false → self.d ≡ 0 }
+        ensures { result ≡ self.entry }
     {
-        if CUT { self.d } else { 0 }
+        let d = if CUT { self.d } else { 0 };
+        Filled { d, word: self.word }
     }
 
     // The weight 0 of a unit, and the weights of the pairs from an index on.
     pub(crate) fn pair_segment(&self, at: usize, v: &mut [u8]) -> bool
         requires { (2 ≤ length v.old) × (length v.old % 2 ≡ 0) × (at + (length v.old - 2) ≤ self.now.d + length self.now.word.now) × (length v.old ≤ room) × (self.now.d ≤ room) × ((self.now.d - at) % 2 ≡ 0) }
-        ensures told { Says result (fill self.now.d self.now.word.now) at (at + (length v.old - 2)) }
-        ensures laid { v.new ≡ 0 ∷ 0 ∷ row true (length v.old / 2 - 1) (drop at (fill self.now.d self.now.word.now)) }
+        ensures told { Says result (filled self.now) at (at + (length v.old - 2)) }
+        ensures laid { v.new ≡ 0 ∷ 0 ∷ row true (length v.old / 2 - 1) (drop at (filled self.now)) }
     {
         let left = self.d.saturating_sub(at).min(v.len() - 2);
         v[..2 + left].fill(0);
@@ -41,7 +40,7 @@ impl Filled<'_> {
     // The weight 0 of a unit, and the bytes from an index on.
     pub(crate) fn single_segment(&self, at: usize, v: &mut [u8])
         requires { (1 ≤ length v.old) × (at + (length v.old - 1) ≤ self.now.d + length self.now.word.now) × (length v.old ≤ room) × (self.now.d ≤ room) }
-        ensures { v.new ≡ 0 ∷ row false (length v.old - 1) (drop at (fill self.now.d self.now.word.now)) }
+        ensures { v.new ≡ 0 ∷ row false (length v.old - 1) (drop at (filled self.now)) }
     {
         v[0] = 0;
         self.bytes(at, &mut v[1..]);
@@ -50,7 +49,7 @@ impl Filled<'_> {
     // The bytes from an index on as they stand, 0 for those that are left out.
     pub(crate) fn bytes(&self, at: usize, v: &mut [u8])
         requires { (at + length v.old ≤ self.now.d + length self.now.word.now) × (length v.old ≤ room) × (self.now.d ≤ room) }
-        ensures { v.new ≡ row false (length v.old) (drop at (fill self.now.d self.now.word.now)) }
+        ensures { v.new ≡ row false (length v.old) (drop at (filled self.now)) }
     {
         let left = self.d.saturating_sub(at).min(v.len());
         v[..left].fill(0);
@@ -82,11 +81,12 @@ fn digits(word: &[u8], v: &mut [u8]) -> u8
     ensures most { Highest word.now 0 (length v.old) result }
     ensures laid { v.new ≡ row true (length v.old / 2) word.now }
 {
+    let next = &word[1..];
     let mut most: u8 = 0;
     for (i, x) in v.iter_mut().enumerate() {
         let b = word[i];
         most = most.max(b);
-        *x = every_other(i, gray::digit(b, word[i + 1]));
+        *x = every_other(i, gray::digit(b, next[i]));
     }
     most
 }

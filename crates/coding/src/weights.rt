@@ -4,15 +4,14 @@
 // head of each segment. The first d places are left out of the word, and have the weight 0 too; what is read
 // is said of the word filled with d zeros. On the way the bytes are tested: those of singles, which are copied
 // as they stand, among the weights, those of pairs as they are read. The pass ends where one is above 1.
-ghost use Rattle.std.specs.Prelude.{◌≡◌, ◌+◌, ◌-◌, ◌*◌, ◌≤◌, true, false, ◌++◌, length, take, drop, MatchOption};
+ghost use Rattle.std.specs.Prelude.{◌≡◌, ◌+◌, ◌-◌, ◌*◌, ◌≤◌, true, false, ◌++◌, length, take, drop};
 ghost use Rattle.group_theory.specs.Group.{moduli};
-ghost use Rattle.layout_theory.specs.Layout.{message};
 ghost use Rattle.blocks_theory.specs.Blocks.{plus, even, level, plus_to};
 ghost use Rattle.folds_theory.specs.Folds.{room, Holds};
-ghost use Rattle.words_theory.specs.Syndrome.{syndrome_over};
 ghost use Rattle.shortened_theory.specs.Code.{fill};
 ghost use Rattle.loops_theory.specs.Spread.{spread, message_in, HoldsFilled};
-ghost use Rattle.loops_theory.specs.Passing.{BitsIn, BadIn, Tells};
+ghost use Rattle.loops_theory.specs.Passing.{BitsIn, Tells};
+ghost use Rattle.coding.specs.Laid.{filled, IsMessage, Sums};
 
 use crate::bits;
 use crate::filled::Filled;
@@ -36,7 +35,7 @@ struct Message<'a> {
 // were tested before.
 pub(crate) fn message_sum(h: Shape, d: usize, word: &[u8], seen: usize) -> Option<Element>
     requires { (h.a ≤ h.binary) × HoldsFilled h.a h.b (h.places + 1) (h.binary - h.a) d word.now × BitsIn (fill d word.now) 0 seen }
-    ensures { MatchOption result (BadIn (fill d word.now) 0 (length (fill d word.now))) (λ x. BitsIn (fill d word.now) 0 (message_in h.a h.b) × (x ≡ syndrome_over (moduli h.a h.b) (message (moduli h.a h.b)) (fill d word.now))) }
+    ensures { Sums h.a h.b (fill d word.now) result }
 {
     let x = Message {
         m: Moduli { a: h.a, b: h.b },
@@ -53,9 +52,10 @@ pub(crate) fn message_sum(h: Shape, d: usize, word: &[u8], seen: usize) -> Optio
 
 impl Message<'_> {
     // The sum by an array of weights that has room for codes up to t = 6, 10 and 12.
+    #[inline(always)]
     fn sum<const CUT: bool>(&self, seen: usize) -> Option<Element>
-        requires { HoldsFilled self.now.m.a self.now.m.b self.now.count self.now.part self.now.filled.d self.now.filled.word.now × BitsIn (fill self.now.filled.d self.now.filled.word.now) 0 seen × (CUT ≡ false → self.now.filled.d ≡ 0) }
-        ensures { MatchOption result (BadIn (fill self.now.filled.d self.now.filled.word.now) 0 (length (fill self.now.filled.d self.now.filled.word.now))) (λ x. BitsIn (fill self.now.filled.d self.now.filled.word.now) 0 (message_in self.now.m.a self.now.m.b) × (x ≡ syndrome_over (moduli self.now.m.a self.now.m.b) (message (moduli self.now.m.a self.now.m.b)) (fill self.now.filled.d self.now.filled.word.now))) }
+        requires { IsMessage self.now × BitsIn (filled self.now.filled) 0 seen × (CUT ≡ false → self.now.filled.d ≡ 0) }
+        ensures { Sums self.now.m.a self.now.m.b (filled self.now.filled) result }
     {
         let t = self.m.a + 2 * self.m.b;
         if t <= 6 {
@@ -69,33 +69,36 @@ impl Message<'_> {
 
     // The same by an array of N weights. Where no place is left out, nothing of the cutting is left in this function
     // when it is compiled.
+    #[inline(always)]
     fn summed<const N: usize, const CUT: bool>(&self, seen: usize) -> Option<Element>
-        requires { HoldsFilled self.now.m.a self.now.m.b self.now.count self.now.part self.now.filled.d self.now.filled.word.now × BitsIn (fill self.now.filled.d self.now.filled.word.now) 0 seen × (CUT ≡ false → self.now.filled.d ≡ 0) × Holds self.now.m.a self.now.m.b N }
-        ensures { MatchOption result (BadIn (fill self.now.filled.d self.now.filled.word.now) 0 (length (fill self.now.filled.d self.now.filled.word.now))) (λ x. BitsIn (fill self.now.filled.d self.now.filled.word.now) 0 (message_in self.now.m.a self.now.m.b) × (x ≡ syndrome_over (moduli self.now.m.a self.now.m.b) (message (moduli self.now.m.a self.now.m.b)) (fill self.now.filled.d self.now.filled.word.now))) }
+        requires { IsMessage self.now × BitsIn (filled self.now.filled) 0 seen × (CUT ≡ false → self.now.filled.d ≡ 0) × Holds self.now.m.a self.now.m.b N }
+        ensures { Sums self.now.m.a self.now.m.b (filled self.now.filled) result }
     {
-        let d = self.filled.left_out::<CUT>();
         let x = Message {
             m: self.m,
             count: self.count,
             part: self.part,
-            filled: Filled {
-                d,
-                word: self.filled.word,
-            },
+            filled: self.filled.cut::<CUT>(),
         };
         let mut v = [0u8; N];
-        if x.lay(seen, &mut v) {
-            Some(folds::weighted(self.m, v))
-        } else {
-            None
-        }
+        let good = x.lay(seen, &mut v);
+        let sum = folds::weighted(self.moduli_if(good), v);
+        if good { Some(sum) } else { None }
+    }
+
+    // The moduli where the word is good; else such as no code has, so that the weights of a bad word are not summed.
+    fn moduli_if(&self, good: bool) -> Moduli
+        ensures { good ≡ true → result ≡ self.now.m }
+    {
+        if good { self.m } else { Moduli { a: 13, b: 0 } }
     }
 
     // All weights: those of the pairs, and behind them those of the singles, which stand first in a word.
+    #[inline(always)]
     fn lay(&self, seen: usize, v: &mut [u8]) -> bool
-        requires { HoldsFilled self.now.m.a self.now.m.b self.now.count self.now.part self.now.filled.d self.now.filled.word.now × BitsIn (fill self.now.filled.d self.now.filled.word.now) 0 seen × Holds self.now.m.a self.now.m.b (length v.old) }
-        ensures told { Tells result (fill self.now.filled.d self.now.filled.word.now) 0 (message_in self.now.m.a self.now.m.b) }
-        ensures laid { result ≡ true → take self.now.count v.new ≡ spread true (moduli self.now.m.a self.now.m.b) (plus (level self.now.m.a self.now.m.b self.now.m.b)) (drop self.now.part (fill self.now.filled.d self.now.filled.word.now)) ++ spread false (moduli self.now.m.a self.now.m.b) (even (level self.now.m.a self.now.m.b self.now.m.b)) (fill self.now.filled.d self.now.filled.word.now) }
+        requires { IsMessage self.now × BitsIn (filled self.now.filled) 0 seen × Holds self.now.m.a self.now.m.b (length v.old) }
+        ensures told { Tells result (filled self.now.filled) 0 (message_in self.now.m.a self.now.m.b) }
+        ensures laid { result ≡ true → take self.now.count v.new ≡ spread true (moduli self.now.m.a self.now.m.b) (plus (level self.now.m.a self.now.m.b self.now.m.b)) (drop self.now.part (filled self.now.filled)) ++ spread false (moduli self.now.m.a self.now.m.b) (even (level self.now.m.a self.now.m.b self.now.m.b)) (filled self.now.filled) }
     {
         let start = self.count - (self.part + self.m.a + 1);
         if self.singles(seen, &mut v[start..self.count]) {
@@ -105,10 +108,11 @@ impl Message<'_> {
     }
 
     // The weights of the pairs: for each quaternary component a segment, up to the unit of the next one.
+    #[inline(always)]
     fn pairs(&self, v: &mut [u8]) -> bool
-        requires { HoldsFilled self.now.m.a self.now.m.b self.now.count self.now.part self.now.filled.d self.now.filled.word.now × (length v.old ≡ 2 * plus_to self.now.m.a self.now.m.b self.now.m.b) × (length v.old ≤ room) }
-        ensures told { Tells result (fill self.now.filled.d self.now.filled.word.now) self.now.part (message_in self.now.m.a self.now.m.b) }
-        ensures laid { result ≡ true → v.new ≡ spread true (moduli self.now.m.a self.now.m.b) (plus (level self.now.m.a self.now.m.b self.now.m.b)) (drop self.now.part (fill self.now.filled.d self.now.filled.word.now)) }
+        requires { IsMessage self.now × (length v.old ≡ 2 * plus_to self.now.m.a self.now.m.b self.now.m.b) × (length v.old ≤ room) }
+        ensures told { Tells result (filled self.now.filled) self.now.part (message_in self.now.m.a self.now.m.b) }
+        ensures laid { result ≡ true → v.new ≡ spread true (moduli self.now.m.a self.now.m.b) (plus (level self.now.m.a self.now.m.b self.now.m.b)) (drop self.now.part (filled self.now.filled)) }
     {
         let mut p: usize = 0;
         let mut e = 1usize << self.m.a;
@@ -127,10 +131,11 @@ impl Message<'_> {
 
     // The weights of the singles: zero, for each binary component a segment, and the others, among which there is no
     // unit. They are tested from the index `seen` on: no byte stands behind its weight.
+    #[inline(always)]
     fn singles(&self, seen: usize, v: &mut [u8]) -> bool
-        requires { HoldsFilled self.now.m.a self.now.m.b self.now.count self.now.part self.now.filled.d self.now.filled.word.now × BitsIn (fill self.now.filled.d self.now.filled.word.now) 0 seen × (length v.old ≡ self.now.part + self.now.m.a + 1) × (length v.old ≤ room) }
-        ensures told { Tells result (fill self.now.filled.d self.now.filled.word.now) 0 self.now.part }
-        ensures laid { v.new ≡ spread false (moduli self.now.m.a self.now.m.b) (even (level self.now.m.a self.now.m.b self.now.m.b)) (fill self.now.filled.d self.now.filled.word.now) }
+        requires { IsMessage self.now × BitsIn (filled self.now.filled) 0 seen × (length v.old ≡ self.now.part + self.now.m.a + 1) × (length v.old ≤ room) }
+        ensures told { Tells result (filled self.now.filled) 0 self.now.part }
+        ensures laid { v.new ≡ spread false (moduli self.now.m.a self.now.m.b) (even (level self.now.m.a self.now.m.b self.now.m.b)) (filled self.now.filled) }
     {
         v[0] = 0;
         let mut n: usize = 1;

@@ -1,10 +1,10 @@
 -- What the functions on words take from the shape of an admitted code: room for its words, what the weights ask, and its two parts in the
--- syndrome; and the length of an output with a copy at its front. Assumes nothing.
+-- syndrome. Assumes nothing.
 use mathlib.Core.Path.{◌≡◌, sym, ap, ◌∙◌}
-use mathlib.Core.List.{List, ◌++◌}
+use mathlib.Core.List.{List}
 use Prim.Native.Nat.{ℕ, ◌+◌, ◌-◌, ◌^◌, ◌≤◌}
 use native.Mathlib.Omega.{arith}
-use lib.ListN.{length, drop, length-append, length-drop}
+use lib.ListN.{length, drop}
 use lib.Pow.{pow_mono}
 use Rattle.group_theory.specs.Group.{Modulus, moduli, sum}
 use Rattle.layout_theory.specs.Parameters.{longest, Admitted, places_of, moduli_for}
@@ -47,7 +47,3 @@ syndrome-sum t r w s k =
     ap (λ (i : ℕ). sum ms (syndrome_over ms (message ms) w) (syndrome_over ms (units ms) (drop i w))) n
     ∙ sym (syndrome-split ms w)
     ∙ ap (λ (x : List Modulus). syndrome x w) (moduli-known t r s k)
-
--- a copy to the front of an output leaves its length
-pub copied-length : (m old copied : List ℕ) → length m ≤ length old → copied ≡ m ++ drop (length m) old → length copied ≡ length old
-copied-length m old copied h e = rw (e, length-append, length-drop) (omega arith)

@@ -16,9 +16,8 @@ use Rattle.words_theory.specs.Words.{zero_word}
 use Rattle.shortened_theory.specs.Code.{fill}
 use Rattle.loops_theory.specs.Spread.{row}
 use Rattle.loops_theory.specs.Passing.{Highest, Says}
-use Rattle.loops_theory.proofs.Laying.{length-row}
 use Rattle.loops_theory.proofs.Rows.{row_more, row_cut}
-use Rattle.loops_theory.proofs.Passing.{highest-join, highest-part, highest-says, says-part, says-filled}
+use Rattle.loops_theory.proofs.Passing.{part-at, highest-join, highest-part, highest-says, says-part, says-filled}
 
 -- ---- a loop that writes g over a list as long as it, one number a turn
 pub record Laid (g v : List ℕ) (i : ℕ) : Type 0 where
@@ -37,11 +36,6 @@ laid-step g v i x f h e =
           ∙ ap₂ (λ (r : List ℕ) (z : ℕ). r ++ (z ∷ [])) f.front e
           ∙ sym (take-suc g i 0 (omega arith)) ∙ ap (λ (k : ℕ). take k g) (sym (add-one i));
     }
-
-pub laid-end : (g v : List ℕ) (i : ℕ) → Laid g v i → length v ≤ i → v ≡ g
-laid-end g v i f h =
-    let s = f.same in
-    sym (take_all i v h) ∙ f.front ∙ take_all i g (omega arith)
 
 -- ---- two calls, the first of which writes the first k numbers of v, and the second all behind them
 pub put_rest : (k : ℕ) (v x y : List ℕ) → length x ≡ k → put_mid k (length (x ++ drop k v) - k) (x ++ drop k v) y ≡ x ++ y
@@ -162,6 +156,13 @@ module _ (d at : ℕ) (w v x y : List ℕ) (left first kept : ℕ) (e : first �
 
         n : length kept-part ≡ kept
         n = length-take-le (first + kept - first) (drop first w) (let o = length-drop first w in omega arith) ∙ omega arith
+
+-- the digit of two neighbours, by a list of all bytes but the first
+pub next-digit : (w : List ℕ) (i d : ℕ) → i + 1 < length w → d ≡ digit (get_or w i 0) (get_or (take (length w - 1) (drop 1 w)) i 0) → d ≡ digit (get_or w (0 + i) 0) (get_or w (0 + i + 1) 0)
+next-digit w i d h e =
+    let z : 0 + i ≡ i = omega arith in
+    let y : 1 + i ≡ i + 1 = omega arith in
+    rw z (e ∙ ap (digit (get_or w i 0)) (part-at w 1 (length w - 1) i (omega arith) ∙ ap (λ (k : ℕ). get_or w k 0) y))
 
 -- ---- pairs, the last of which is read alone
 module _ (w v : List ℕ) (m : ℕ) (e : length w ≡ length v) (p : length v % 2 ≡ 0) (s : m ≡ length v - 2) (two : 2 ≤ length v) where

@@ -1,23 +1,21 @@
 -- For the loops that test the bytes of a word on their way over it. Assumes nothing.
-use mathlib.Core.Path.{◌≡◌, refl, sym, ap, ap₂, subst, ◌∙◌}
+use mathlib.Core.Path.{◌≡◌, refl, sym, ap, subst, ◌∙◌}
 use mathlib.Core.Logic.{◌≢◌, ◌⊎◌, inl, inr, ⊎_elim}
 use mathlib.Core.Bool.{Bool, true, false, not}
-use mathlib.Core.List.{List, [], ◌∷◌, ◌++◌}
-use Prim.Native.Nat.{ℕ, zero, suc, ◌+◌, ◌-◌, ◌*◌, ◌/◌, ◌%◌, max, ◌<◌, ◌≤◌}
+use mathlib.Core.List.{List, [], ◌∷◌}
+use Prim.Native.Nat.{ℕ, zero, suc, ◌+◌, ◌-◌, ◌%◌, max, ◌<◌, ◌≤◌}
 use native.Mathlib.Decide.{dec_lt}
 use native.Mathlib.Omega.{arith}
-use borrow.Author.Tests.{lt-ltb, le-ltb, le-leb, lt-leb}
-use lib.Dec.{leb, ltb}
+use borrow.Author.Tests.{le-leb, lt-leb}
+use lib.Dec.{leb}
 use Rattle.std.specs.Prelude.{Option, MatchOption}
 use Rattle.std.specs.Bool.{then_some}
-use lib.ListN.{length, take, drop, get_or, length-map, length-append, length-drop, take-append-drop, get_or-eq_default}
-use lib.Seq.{length-take-le, take_all, take-take, take-add, drop_at, take-append-add, get_or-take, get_or-drop, get_or-append-add}
+use lib.ListN.{length, take, drop, get_or, length-map, length-drop, get_or-eq_default}
+use lib.Seq.{length-take-le, get_or-take, get_or-drop}
 use Rattle.group_theory.specs.Group.{Modulus, moduli, hd, tl, element}
-use Rattle.layout_theory.specs.Choice.{pick}
-use Rattle.blocks_theory.specs.Blocks.{select, skips, others, even, level, plus_to, even_to}
+use Rattle.blocks_theory.specs.Blocks.{select, skips, others, even, level, plus_to}
 use Rattle.blocks_theory.proofs.Blocks.{select_yes, select_no}
 use Rattle.blocks_theory.proofs.Members.{singles-members, even-all}
-use Rattle.folds_theory.specs.Folds.{Holds}
 use Rattle.words_theory.specs.Words.{Bits}
 use Rattle.words_theory.specs.Calls.{bad_from}
 use Rattle.words_theory.proofs.Bad.{bad-step, bad-found, bad-end, bits_none, none-bits}
@@ -26,8 +24,8 @@ use Rattle.loops_theory.specs.Passing.{BitsIn, BadIn, Says, Tells, Highest}
 use Rattle.shortened_theory.specs.Allowed.{EndsWhole}
 use Rattle.loops_theory.specs.Spread.{message_in, spread, HoldsMessage}
 use Rattle.loops_theory.proofs.Cuts.{get_or-left, get_or-fill, get_d_kept}
-use Rattle.loops_theory.proofs.Spreads.{free, spread-yes, spread-no, length-spread}
-use Rattle.loops_theory.proofs.Laying.{hd-get_or, get_or-tl, Pairing, SinglesRoom, shares}
+use Rattle.loops_theory.proofs.Spreads.{free, spread-yes, spread-no}
+use Rattle.loops_theory.proofs.Laying.{hd-get_or, get_or-tl, Pairing, shares}
 
 -- ---- the highest byte
 larger-of : (a b : ℕ) → (max a b ≡ a) ⊎ (max a b ≡ b)
@@ -204,7 +202,7 @@ spread-bad ms (x ∷ xs) w i h = go (skips ms x) refl (λ z k. spread-bad ms xs 
 
 -- ---- a part of a word by itself
 module _ (w : List ℕ) (s n : ℕ) where
-  part-at : (i : ℕ) → i < n → get_or (take n (drop s w)) i 0 ≡ get_or w (s + i) 0
+  pub part-at : (i : ℕ) → i < n → get_or (take n (drop s w)) i 0 ≡ get_or w (s + i) 0
   part-at i h = get_or-take n (drop s w) i 0 h ∙ get_or-drop s w i 0
 
   bits-part : (k : ℕ) → k ≤ n → BitsIn (take n (drop s w)) 0 k → BitsIn w s (s + k)
@@ -300,12 +298,6 @@ module _ (w : List ℕ) (i : ℕ) where
       let l = length-rest in
       sym (bad-skip w i (length rest) (omega arith) (bits-part w i (length w - i) (length rest) (omega arith) f) ∙ bad-end w (i + length rest) (omega arith))
 
--- a part that was tested whole, and the value that is told where it was good
-pub told-some : {A : Type 0} (w : List ℕ) (e y : A) (r : Option A) (x : Bool) → r ≡ then_some x e → Says x w 0 (length w) → e ≡ y
-    → MatchOption r (BadIn w 0 (length w)) (λ z. BitsIn w 0 (length w) × (z ≡ y))
-told-some w e y r true a f g = rw a (f, g)
-told-some w e y r false a f g = rw a f
-
 -- a test of the front of a word
 pub front-told : (w : List ℕ) (n : ℕ) → n ≤ length w → (r : Option ℕ) (x : Bool) → r ≡ then_some {T = ℕ} x n → Says x (take n w) 0 (length (take n w))
     → MatchOption r (BadIn w 0 (length w)) (λ k. (k ≤ length w) × BitsIn w 0 k)
@@ -319,6 +311,19 @@ front-told w n h r x e f = go x e (subst (Says x w 0) (omega arith) (says-part w
 pub says-tells : (w : List ℕ) (s e : ℕ) (x : Bool) → Says x w s e → Tells x w s e
 says-tells w s e true f = f
 says-tells w s e false f = bad-within w f
+
+-- two bytes more
+pub highest-steps : (w : List ℕ) (s e x y z : ℕ) → s ≤ e → Highest w s e x → y ≡ max x (get_or w e 0) → z ≡ max y (get_or w (e + 1) 0) → Highest w s (e + 2) z
+highest-steps w s e x y z h f g l =
+    let a : e + 1 + 1 ≡ e + 2 = omega arith in
+    subst (λ (k : ℕ). Highest w s k z) a (highest-step w s (e + 1) y z (omega arith) (highest-step w s e x y h f g) l)
+
+-- the highest byte of a word tells whether all of them are 0 or 1
+pub highest-good : (w : List ℕ) (e x : ℕ) → e ≡ length w → Highest w 0 e x → x ≤ 1 → BitsIn w 0 (length w)
+highest-good w e x q f h i a l = let u = f.most i a (omega arith) in omega arith
+
+pub highest-bad : (w : List ℕ) (e x : ℕ) → Highest w 0 e x → 1 < x → BadIn w 0 (length w)
+highest-bad w e x f h = bad-within w (f.some h)
 
 -- ---- a pass over a message, singles and then pairs, and over a word, the message and then the check part
 pub tells-pairs : (w : List ℕ) (part end : ℕ) (t : Bool) → BitsIn w 0 part → Tells t w part end → Tells t w 0 end

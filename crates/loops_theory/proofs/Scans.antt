@@ -1,7 +1,7 @@
 -- What the functions of coding answer, from what a pass tells: the pass over a word, and the encoding of a message. Assumes nothing.
-use mathlib.Core.Path.{◌≡◌, refl, sym, ap, ap₂, subst, ◌∙◌}
+use mathlib.Core.Path.{◌≡◌, sym, ap, ap₂, subst, ◌∙◌}
 use mathlib.Core.Logic.{◌≢◌}
-use mathlib.Core.Bool.{Bool, true, false}
+use mathlib.Core.Bool.{true, false}
 use mathlib.Core.List.{List, ◌++◌, append_assoc}
 use Prim.Native.Nat.{ℕ, ◌+◌, ◌-◌, ◌*◌, ◌^◌, ◌<◌, ◌≤◌}
 use native.Mathlib.Omega.{arith}
@@ -10,14 +10,11 @@ use lib.Dec.{eqb}
 use lib.ListN.{length, take, drop, length-drop, length-replicate}
 use lib.Seq.{take_all, drop_at}
 use Rattle.group_theory.specs.Group.{Modulus, moduli, sum, negative}
-use Rattle.layout_theory.specs.Choice.{pick}
 use Rattle.layout_theory.specs.Parameters.{places_of, message_of, moduli_for}
 use Rattle.layout_theory.specs.Layout.{units, message}
 use Rattle.layout_theory.specs.Calls.{shape_for}
 use Rattle.layout_theory.specs.declared.Shape.{Shape}
 use Rattle.layout_theory.proofs.Parameters.{Known, known-for, moduli-known, sizes-known}
-use Rattle.blocks_theory.specs.Blocks.{plus, even, level, plus_to}
-use Rattle.folds_theory.specs.Folds.{Holds, weighted_for}
 use Rattle.words_theory.specs.Words.{zero_word}
 use Rattle.words_theory.specs.Syndrome.{syndrome_over}
 use Rattle.words_theory.specs.Coding.{check_digits, encode}
@@ -26,7 +23,7 @@ use Rattle.words_theory.proofs.Bad.{bad-most}
 use Rattle.shortened_theory.specs.Code.{fill, shortened_syndrome, shortened_encode}
 use Rattle.shortened_theory.specs.Calls.{Fits}
 use Rattle.shortened_theory.proofs.Filling.{length-fill}
-use Rattle.loops_theory.specs.Spread.{spread, message_in, HoldsMessage, HoldsFilled}
+use Rattle.loops_theory.specs.Spread.{message_in, HoldsFilled}
 use Rattle.loops_theory.specs.Passing.{BitsIn, BadIn}
 use Rattle.loops_theory.proofs.Answers.{places-room, holds-message, syndrome-sum}
 use Rattle.loops_theory.proofs.Rows.{drop-fill}

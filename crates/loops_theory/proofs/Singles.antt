@@ -2,16 +2,15 @@
 use mathlib.Core.Path.{◌≡◌, refl, sym, ap, ap₂, subst, ◌∙◌}
 use mathlib.Core.Bool.{Bool, true, false}
 use mathlib.Core.List.{List, [], ◌∷◌, ◌++◌, append-nil}
-use Prim.Native.Nat.{ℕ, zero, suc, ◌+◌, ◌-◌, ◌*◌, ◌/◌, ◌%◌, ◌^◌, ◌<◌, ◌≤◌}
+use Prim.Native.Nat.{ℕ, suc, ◌+◌, ◌-◌, ◌*◌, ◌/◌, ◌^◌, ◌<◌, ◌≤◌}
 use native.Mathlib.Nat.{pow-succ'}
-use native.Mathlib.Numerals.{add-one}
 use native.Mathlib.Omega.{arith}
 use borrow.Rule.Slice.PartMut.{put_mid, same_len_mid}
-use lib.ListN.{length, take, drop, get_or, set, length-set, length-drop, drop_of_length-le}
-use lib.Seq.{take-suc-set, take_all, length-take-le}
+use lib.ListN.{length, take, drop, set, length-set, length-drop, drop_of_length-le}
+use lib.Seq.{take-suc-set, length-take-le}
 use Rattle.std.proofs.lemmas.Slice.{take-put_mid}
 use Rattle.group_theory.specs.Group.{moduli}
-use Rattle.layout_theory.specs.Layout.{from, singles}
+use Rattle.layout_theory.specs.Layout.{from}
 use Rattle.blocks_theory.specs.Blocks as blocks
 use Rattle.blocks_theory.specs.Blocks.{level, plus_to, even_to}
 use Rattle.blocks_theory.proofs.Splits.{pow_pos, pow-rises, even_power}

@@ -1,5 +1,5 @@
 -- `coding::encode_fit` meets its contract: the message and its check digits, or nothing. Assumes nothing.
-use Rattle.std.proofs.Common.{◌≡◌, ℕ, ◌+◌, ◌-◌, ◌*◌, ◌≤◌, List, ◌++◌, length, drop, ap, sym, ◌∙◌, arith, rules}
+use Rattle.std.proofs.Common.{◌≡◌, ◌+◌, ◌*◌, ◌++◌, length, drop, ap, arith, rules}
 use Rattle.layout_theory.proofs.Parameters.{sizes-known}
 use Rattle.loops_theory.proofs.ByFilling.{told-none, told-bad}
 use Rattle.loops_theory.proofs.Parts.{put_over, length-put}

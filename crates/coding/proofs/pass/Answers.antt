@@ -1,5 +1,5 @@
 -- `coding::pass` meets its contract: the sum of the two parts. Assumes nothing.
-use Rattle.std.proofs.Common.{◌≡◌, ◌+◌, ◌-◌, ◌*◌, ◌≤◌, length, arith, rules}
+use Rattle.std.proofs.Common.{◌≡◌, ◌+◌, ◌-◌, arith}
 use Rattle.layout_theory.proofs.Parameters.{sizes-known}
 use Rattle.loops_theory.proofs.Passing.{bits-filled, bad-unfilled}
 use Rattle.loops_theory.proofs.Answers.{places-room}

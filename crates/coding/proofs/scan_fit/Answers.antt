@@ -1,5 +1,5 @@
 -- `coding::scan_fit` meets its contract: the syndrome, or the lowest place of a byte above 1. Assumes nothing.
-use Rattle.std.proofs.Common.{◌≡◌, length, arith, rules}
+use Rattle.std.proofs.Common.{length, arith, rules}
 use Rattle.layout_theory.specs.Parameters.{places_of}
 use Rattle.shortened_theory.specs.Calls.{Fits}
 use Rattle.shortened_theory.proofs.Guards.{word_fits}

@@ -1,5 +1,5 @@
 -- `coding::bits::front` meets its contract. Assumes nothing.
-use Rattle.std.proofs.Common.{length, sym, arith, length-take-le}
+use Rattle.std.proofs.Common.{sym, arith, length-take-le}
 use Rattle.loops_theory.proofs.Passing.{front-told}
 use Rattle.coding.proofs.bits.front.Goals as goal
 

@@ -1,6 +1,6 @@
 -- `coding::check::write` meets its contract: each turn writes the digit of one component. Assumes nothing.
-use Rattle.std.proofs.Common.{◌+◌, ◌*◌, ◌<◌, ◌≤◌, length, arith, length-set, rules}
-use Rattle.loops_theory.proofs.CheckWriting.{digits-start, digits-end, room-two, room-four, write_two, write-four, write-one}
+use Rattle.std.proofs.Common.{rules}
+use Rattle.loops_theory.proofs.CheckWriting.{digits-start, digits-end, write_two, write-four, write-one}
 use Rattle.coding.proofs.check.write.Goals as goal
 use Rattle.coding.proofs.check.write.Goals.{then-i-m, else-i-m+then-i-m-2, else-i-m+else-i-m-2}
 

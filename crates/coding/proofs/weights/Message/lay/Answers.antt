@@ -1,5 +1,5 @@
 -- `coding::weights::Message::lay` meets its contract. Assumes nothing.
-use Rattle.std.proofs.Common.{◌≡◌, ℕ, ◌+◌, ◌-◌, ◌≤◌, length, List, ◌++◌, take, drop, sym, refl, ◌∙◌, ap, ap₂, arith, rules, length-take-le, length-drop}
+use Rattle.std.proofs.Common.{◌≡◌, ℕ, ◌+◌, ◌-◌, ◌≤◌, length, ◌++◌, take, drop, sym, refl, ◌∙◌, ap, ap₂, arith, rules, length-take-le, length-drop}
 use Rattle.shortened_theory.specs.Code.{fill}
 use borrow.Rule.Slice.PartMut.{put_mid, take_put}
 use Rattle.loops_theory.specs.Spread.{message_in}

@@ -1,14 +1,13 @@
 -- `coding::weights::Message::pairs` meets its contract. Assumes nothing.
-use Rattle.std.proofs.Common.{◌≡◌, ℕ, ◌+◌, ◌-◌, ◌*◌, ◌%◌, ◌≤◌, true, List, length, refl, subst, sym, ◌∙◌, arith, rules, take_all, length-take-le}
-use mathlib.Core.Bool.{false≢true}
+use Rattle.std.proofs.Common.{◌≡◌, ◌+◌, ◌-◌, ◌*◌, ◌%◌, ◌≤◌, true, length, refl, subst, sym, ◌∙◌, arith, rules, take_all}
 use Rattle.layout_theory.proofs.Parameters.{shift_one}
 use Rattle.folds_theory.specs.Folds.{room}
 use Rattle.shortened_theory.specs.Code.{fill}
 use Rattle.shortened_theory.proofs.Filling.{length-fill}
 use Rattle.loops_theory.specs.Passing.{BitsIn}
 use Rattle.loops_theory.proofs.Laying.{Segment, pairing-start, pairing-asks, pairing-done}
-use Rattle.loops_theory.proofs.Passing.{bits-join, bad-within, pairs-whole, pairs_end}
-use Rattle.loops_theory.proofs.Singles.{part-room, in-row, in-all, length-segment, pairing-next, pairing-said}
+use Rattle.loops_theory.proofs.Passing.{bits-join, pairs-whole, pairs_end}
+use Rattle.loops_theory.proofs.Singles.{part-room, in-all, length-segment, pairing-next, pairing-said}
 use Rattle.coding.proofs.weights.Message.pairs.Goals as goal
 use Rattle.coding.proofs.weights.Message.pairs.Goals.{In-loop-j}
 

@@ -1,11 +1,11 @@
 -- `coding::weights::Message::singles` meets its contract. Assumes nothing.
-use Rattle.std.proofs.Common.{◌≡◌, ℕ, ◌+◌, ◌-◌, ◌≤◌, ◌^◌, length, take, drop, ◌*◌, ◌∙◌, refl, arith, rules, length-take-le, length-drop}
+use Rattle.std.proofs.Common.{◌≡◌, ℕ, ◌+◌, ◌-◌, ◌≤◌, length, take, drop, ◌*◌, ◌∙◌, refl, arith, rules, length-take-le, length-drop}
 use Rattle.shortened_theory.specs.Code.{fill}
 use Rattle.shortened_theory.proofs.Filling.{length-fill}
 use Rattle.folds_theory.specs.Folds.{room}
 use Rattle.loops_theory.specs.Passing.{BitsIn}
 use Rattle.loops_theory.proofs.Passing.{length-rest, singles-told}
-use Rattle.loops_theory.proofs.Singles.{SingleAsks, some-singles, singled-start, singled-asks, singled-end, singled-step, singled-done}
+use Rattle.loops_theory.proofs.Singles.{SingleAsks, singled-start, singled-asks, singled-end, singled-step, singled-done}
 use Rattle.coding.proofs.weights.Message.singles.Goals as goal
 use Rattle.coding.proofs.weights.Message.singles.Goals.{In-loop-i, After-loop-i}
 

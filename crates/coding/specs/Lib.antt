@@ -1,0 +1,2 @@
+-- What the contracts say of the structs of this crate.
+pub mod Laid
