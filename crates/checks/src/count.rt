@@ -17,7 +17,9 @@ pub fn counted(record: Record, place: u32) -> Record
     Record {
         words: record.words.saturating_add(1),
         clean: record.clean.saturating_add(u32::from(place == 0)),
-        corrected_binary: record.corrected_binary.saturating_add(u32::from(width == 1)),
+        corrected_binary: record
+            .corrected_binary
+            .saturating_add(u32::from(width == 1)),
         corrected_pairs: record.corrected_pairs.saturating_add(u32::from(width == 2)),
         ..record
     }

@@ -50,7 +50,7 @@ pub(crate) fn element(work: Result<u32, Refusal>) -> ElementAnswer
 }
 
 // The place that was changed, and the record with it counted.
-pub(crate) fn counted(record: Record, work: Result<u32, Refusal>) -> Corrected
+pub(crate) fn change(record: Record, work: Result<u32, Refusal>) -> Corrected
     requires { IfOk work (λ p. Usable «record» × («record».words ≢ full_count)) }
     ensures { result ≡ told_counted «record» work }
 {

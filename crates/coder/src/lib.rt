@@ -89,8 +89,8 @@ pub fn read_message<'a>(record: Record, word: &'a [u8]) -> &'a [u8]
 {
     let a = is_codeword(record, word);
     if a.yes {
-        let m = message_length(record) as usize;
-        return &word[..m];
+        let m = message_length(record);
+        return &word[..m as usize];
     }
     &word[..0]
 }
@@ -109,7 +109,8 @@ pub fn correct(record: Record, word: &[u8], out: &mut [u8]) -> Corrected
     ensures answer { result ≡ correct_answer «record» word.now out.old }
     ensures bytes { out.new ≡ correct_output «record» word.now out.old }
 {
-    answers::counted(record, work::corrected(record, word, out))
+    let changed = work::corrected(record, word, out);
+    answers::change(record, changed)
 }
 
 // The place that correction would change, 0 for a codeword; nothing is counted. Refused with 21, 22, 10, 2, 4
@@ -126,7 +127,8 @@ pub fn commit(record: Record, place: u32, word: &mut [u8]) -> Corrected
     ensures answer { result ≡ commit_answer «record» place word.old }
     ensures bytes { word.new ≡ commit_output «record» place word.old }
 {
-    answers::counted(record, work::committed(record, place, word))
+    let changed = work::committed(record, place, word);
+    answers::change(record, changed)
 }
 
 // Two words combined by the group law, at the front of `out`. Refused with 21, 22, 10, 2, 3 and 4.

@@ -22,7 +22,7 @@ use Rattle.coder_theory.specs.Calls.{if_accepted, state_reasons, in_force, open_
 use Rattle.coder_theory.specs.declared.Record.{Record}
 use Rattle.coder_theory.specs.declared.ElementAnswer.{ElementAnswer}
 use Rattle.coder_theory.proofs.Firsts.{first-yes, first-no, first-end}
-use Rattle.coder_theory.proofs.States.{or_left, or_right, Clear, state-number, state-past, true-usable}
+use Rattle.coder_theory.proofs.States.{or_left, or_right, Clear, state-past, true-usable}
 
 abbrev number_of : Reason → ℕ
 number_of x = x.number
@@ -78,16 +78,6 @@ element-told rec p = go (first_reason (layout_reasons rec p)).number
     go : (n : ℕ) → ((answer n).place ≡ 0) × ((answer n).refusal ≢ 0 → (answer n).element ≡ 0)
     go zero = (refl, λ h. absurd (h refl))
     go (suc n) = (refl, λ h. refl)
-
-pub element-state : (rec : Record) (p n : ℕ) → n ≡ (first_reason (state_reasons rec)).number → n ≢ 0 → element_answer rec p ≡ refused_element n
-element-state rec p n e h =
-    element-by rec p (first_reason (state_reasons rec)) (state-number rec (outside rec p ∷ []) (λ z. h (e ∙ z)))
-    ∙ rw (← e) (go n h)
-  where
-    go : (n : ℕ) → n ≢ 0
-        → if_accepted n (record { refusal = 0; place = 0; element = element_in rec p }) (refused_element n) ≡ refused_element n
-    go zero k = absurd (k refl)
-    go (suc n) k = refl
 
 -- a place outside 1 to n, as reason 5 tests it
 pub outside-yes : (rec : Record) (p : ℕ) → (p ≡ 0) ⊎ (places_in rec < p) → (outside rec p).applies ≡ true

@@ -101,12 +101,6 @@ module _ (rec : Record) (w : List ℕ) (a : Answer) (e : a ≡ answer_of (first_
   number_by : a.refusal ≡ (first_reason (word_reasons rec w)).number
   number_by = ap (λ (x : Answer). x.refusal) e
 
-  pub ask-refused : a.refusal ≢ 0 → record { refusal = a.refusal; place = a.place } ≡ ask_answer rec w
-  unfolding ask_answer
-  ask-refused h =
-      let k : (first_reason (word_reasons rec w)).number ≢ 0 = λ z. h (number_by ∙ z) in
-      rw (first-before (word_reasons rec w) (left_reason rec w ∷ []) k, if-refused _ _ _ k, ← number_by, ap (λ (x : Answer). x.place) e)
-
   module _ (h : a.refusal ≡ 0) (q : ℕ) (g : q ≡ shortened_fault_for rec.t rec.r rec.s w) where
     none : NoneApplies (word_reasons rec w)
     none = accepted-none (word_reasons rec w) refl (sym number_by ∙ h)

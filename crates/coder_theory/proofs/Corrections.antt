@@ -156,9 +156,6 @@ module _ (rec : Record) (w out : List ℕ) (a : Answer) (e : a ≡ answer_of (fi
       none : NoneApplies last
       none = accepted-none last refl (sym number_by ∙ n)
 
-      pub correct-ready : Usable rec × (rec.words ≢ full_count)
-      correct-ready = (ready.0, eqb-false rec.words full_count none.1.0)
-
       -- it is counted, and written with its place flipped
       pub correct-changed : (p : ℕ) → p ≡ q - rec.s → (f : List ℕ) → f ≡ flip_for w p out
           → (record { refusal = 0; place = p; «record» = counted rec p } ≡ correct_answer rec w out) × (f ≡ correct_output rec w out)

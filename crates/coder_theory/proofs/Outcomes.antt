@@ -1,8 +1,8 @@
 -- What the calls on words and places answer, by the first reason that applies: what their proofs cite. Assumes nothing.
-use mathlib.Core.Path.{◌≡◌, refl, sym, ap, ap₂, ◌∙◌}
+use mathlib.Core.Path.{◌≡◌, refl, sym, ap, ◌∙◌}
 use mathlib.Core.Logic.{◌≢◌, ◌⊎◌, inl, inr, ⊎_elim}
-use mathlib.Core.List.{List, [], ◌∷◌, ◌++◌}
-use mathlib.Core.Bool.{Bool, true, false, ◌||◌, not, false≢true}
+use mathlib.Core.List.{List, [], ◌∷◌}
+use mathlib.Core.Bool.{Bool, true, false, not, false≢true}
 use Prim.Native.Nat.{ℕ, zero, suc, ◌-◌, ◌≤◌}
 use native.Mathlib.Omega.{arith}
 use borrow.Author.Tests.{eqb-true, eq-eqb, ne_eqb, le-leb, le-ltb, ltb-false, eqb-false, not-false}
@@ -22,14 +22,13 @@ use Rattle.shortened_theory.specs.Calls.{Fits, shortened_syndrome_for, is_shorte
 use Rattle.shortened_theory.proofs.Guards.{both-allowed, fits_word_lem}
 use Rattle.coder_theory.specs.State.{Usable, places_in, message_in, syndrome_in, number_in, is_codeword_in, third_in, third_old_place_in}
 use Rattle.coder_theory.specs.Reasons.{Reason, first_reason, left_out, outside, wrong_length, short_output, bad_place, bad_byte}
-use Rattle.coder_theory.specs.Calls.{if_accepted, state_reasons, layout_reasons, word_length, message_length, word_reasons, answer_of, syndrome_answer, codeword_answer, shown, write_reasons}
+use Rattle.coder_theory.specs.Calls.{if_accepted, state_reasons, layout_reasons, message_length, word_reasons, answer_of, syndrome_answer, codeword_answer, shown, write_reasons}
 use Rattle.coder_theory.specs.Calls.{places_reasons, third_reasons, third_answer}
 use Rattle.coder_theory.specs.declared.Record.{Record}
-use Rattle.coder_theory.specs.declared.Size.{Size}
 use Rattle.coder_theory.specs.declared.Answer.{Answer}
 use Rattle.coder_theory.specs.declared.TestAnswer.{TestAnswer}
-use Rattle.coder_theory.proofs.Firsts.{Placeless, numbered, first-yes, first-no, first-end, first-before, first-after, first_past, accepted-none, no_place}
-use Rattle.coder_theory.proofs.States.{Clear, state-number, state-clear, usable-true, true-usable, or-false}
+use Rattle.coder_theory.proofs.Firsts.{first-yes, first-no, first-end, first-after, first_past, accepted-none}
+use Rattle.coder_theory.proofs.States.{usable-true, true-usable, or-false}
 use Rattle.coder_theory.proofs.Answers.{usable-length}
 
 pub if-accepted : {A : Type 0} (n : ℕ) (x y : A) → n ≡ 0 → if_accepted n x y ≡ x
@@ -44,13 +43,6 @@ pub by-pick : {A : Type 0} {x y z : A} (b : Bool) → (b ≡ true → x ≡ z) �
 by-pick true e f = e refl
 by-pick false e f = f refl
 
--- ---- 21 and 22 tell no place
-pub state-answer : (rec : Record) (rs : List Reason) (n : ℕ) → n ≡ (first_reason (state_reasons rec)).number → n ≢ 0
-    → answer_of (first_reason (state_reasons rec ++ rs)) ≡ record { refusal = n; place = 0 }
-state-answer rec rs n e h =
-    ap answer_of (state-number rec rs (λ z. h (e ∙ z)))
-    ∙ ap₂ {C = Answer} (λ (x p : ℕ). record { refusal = x; place = p }) (sym e) (no_place (state_reasons rec) (refl, (refl, (refl, tt))))
-
 -- ---- 4, by the place that a scan found
 module _ (w : List ℕ) (p : ℕ) (e : p ≡ bad_place w) where
   pub byte-bad : p ≢ 0 → (rs : List Reason) → record { refusal = 4; place = p } ≡ answer_of (first_reason (bad_byte w ∷ rs))
@@ -60,22 +52,6 @@ module _ (w : List ℕ) (p : ℕ) (e : p ≡ bad_place w) where
 
   pub byte-good : p ≡ 0 → (bad_byte w).applies ≡ false
   byte-good h = ap not (eq-eqb (bad_place w) 0 (sym e ∙ h))
-
--- ---- the lengths of a record that is not fit are 0, but then a reason before them applies
-module _ (rec : Record) (s : Size) (e : (s.places ≡ word_length rec) × (s.message ≡ message_length rec)) where
-  pub by_lengths : (rs : ℕ → ℕ → List Reason)
-      → first_reason (state_reasons rec ++ rs s.places s.message) ≡ first_reason (state_reasons rec ++ rs (places_in rec) (message_in rec))
-  unfolding word_length message_length
-  by_lengths rs = go (first_reason (state_reasons rec)).number refl
-    where
-      go : (n : ℕ) → (first_reason (state_reasons rec)).number ≡ n
-          → first_reason (state_reasons rec ++ rs s.places s.message) ≡ first_reason (state_reasons rec ++ rs (places_in rec) (message_in rec))
-      go zero z =
-          let f = state-clear rec z in
-          ap₂ (λ (n m : ℕ). first_reason (state_reasons rec ++ rs n m)) (e.0 ∙ usable-length rec (places_in rec) f) (e.1 ∙ usable-length rec (message_in rec) f)
-      go (suc n) z =
-          let h : (first_reason (state_reasons rec)).number ≢ 0 = λ y. let c : suc n ≡ 0 = sym z ∙ y in omega arith in
-          state-number rec (rs s.places s.message) h ∙ sym (state-number rec (rs (places_in rec) (message_in rec)) h)
 
 -- a call with no output asks for no more room than the word has
 pub word_room : (rec : Record) (w : List ℕ) → first_reason (write_reasons rec (places_in rec) w (length w)) ≡ first_reason (word_reasons rec w)
@@ -89,25 +65,6 @@ word_room rec w = first-after (state_reasons rec) _ _ (go (eqb (length w) (place
         let l = eqb-true (length w) n e in
         first-no (wrong_length n w) _ (ap not e) ∙ first-no (short_output n (length w)) _ (le-ltb (length w) n (omega arith)) ∙ sym (first-no (wrong_length n w) _ (ap not e))
     go false e = first-yes (wrong_length n w) _ (ap not e) ∙ sym (first-yes (wrong_length n w) _ (ap not e))
-
--- ---- 4 comes last, by the place that a pass found
-module _ (early : List Reason) (quiet : Placeless early) (some : numbered early ≡ true) (w : List ℕ) (x : ℕ) (e : x ≡ (first_reason early).number) where
-  pub byte-stopped : x ≢ 0 → record { refusal = x; place = 0 } ≡ answer_of (first_reason (early ++ (bad_byte w ∷ [])))
-  byte-stopped h =
-      ap₂ {C = Answer} (λ (n p : ℕ). record { refusal = n; place = p }) e (sym (no_place early quiet))
-      ∙ sym (ap answer_of (first-before early (bad_byte w ∷ []) (λ z. h (e ∙ z))))
-
-  module _ (z : x ≡ 0) (p : ℕ) (f : p ≡ bad_place w) where
-    last : first_reason (early ++ (bad_byte w ∷ [])) ≡ first_reason (bad_byte w ∷ [])
-    last = first_past early (bad_byte w ∷ []) (accepted-none early some (sym e ∙ z))
-
-    pub byte-refused : p ≢ 0 → record { refusal = 4; place = p } ≡ answer_of (first_reason (early ++ (bad_byte w ∷ [])))
-    byte-refused h = byte-bad w p f h [] ∙ sym (ap answer_of last)
-
-    pub byte-accepted : p ≡ 0 → record { refusal = 0; place = p } ≡ answer_of (first_reason (early ++ (bad_byte w ∷ [])))
-    byte-accepted h =
-        ap {B = Answer} (λ (p : ℕ). record { refusal = 0; place = p }) h
-        ∙ sym (ap answer_of (last ∙ first-no (bad_byte w) [] (byte-good w p f h) ∙ first-end))
 
 -- ---- what an accepted call on a word knows, and what the functions on plain words then answer
 pub right-length : (n : ℕ) (w : List ℕ) → (wrong_length n w).applies ≡ false → length w ≡ n
@@ -175,12 +132,6 @@ plain-third rec i j e =
       h.1.1.1.1.1.0,
     )
 
--- whether a place is outside, by the lengths of a fit record
-pub outside-by : (rec : Record) (s : Size) (f : Clear rec) → s.places ≡ word_length rec → (p : ℕ)
-    → (eqb p 0 || ltb s.places p) ≡ (outside rec p).applies
-unfolding word_length
-outside-by rec s f e p = ap (λ (n : ℕ). eqb p 0 || ltb n p) (e ∙ usable-length rec (places_in rec) f)
-
 -- ---- the answers, by what the check answered
 module _ (rec : Record) (w : List ℕ) (a : Answer) (e : a ≡ answer_of (first_reason (word_reasons rec w))) where
   number_by : a.refusal ≡ (first_reason (word_reasons rec w)).number
@@ -189,15 +140,8 @@ module _ (rec : Record) (w : List ℕ) (a : Answer) (e : a ≡ answer_of (first_
   place-by : a.place ≡ (first_reason (word_reasons rec w)).place
   place-by = ap (λ (x : Answer). x.place) e
 
-  refused : a.refusal ≢ 0 → (first_reason (word_reasons rec w)).number ≢ 0
-  refused h z = h (number_by ∙ z)
-
   ready : a.refusal ≡ 0 → Usable rec × (length w ≡ places_in rec)
   ready h = word-accepted rec w (sym number_by ∙ h)
-
-  pub syndrome-refused : a.refusal ≢ 0 → record { refusal = a.refusal; place = a.place; element = 0 } ≡ syndrome_answer rec w
-  unfolding syndrome_answer
-  syndrome-refused h = rw (if-refused _ _ _ (refused h), ← number_by, ← place-by)
 
   pub syndrome-accepted : a.refusal ≡ 0 → (x : List ℕ) → x ≡ shortened_syndrome_for rec.t rec.r rec.s w → (s : Shape) → s ≡ shape_for rec.t rec.r
       → record { refusal = a.refusal; place = a.place; element = number (moduli s.a s.b) x } ≡ syndrome_answer rec w
@@ -212,10 +156,6 @@ module _ (rec : Record) (w : List ℕ) (a : Answer) (e : a ≡ answer_of (first_
         plain-syndrome rec w f (ready h).1,
         moduli-known rec.t rec.r s (known-for rec.t rec.r s k f.fit.admitted),
       )
-
-  pub codeword-refused : a.refusal ≢ 0 → record { refusal = a.refusal; place = a.place; yes = false } ≡ codeword_answer rec w
-  unfolding codeword_answer
-  codeword-refused h = rw (if-refused _ _ _ (refused h), ← number_by, ← place-by)
 
   pub codeword-accepted : a.refusal ≡ 0 → (x : List ℕ) → x ≡ shortened_syndrome_for rec.t rec.r rec.s w
       → record { refusal = a.refusal; place = a.place; yes = all_zero x } ≡ codeword_answer rec w
@@ -279,14 +219,6 @@ module _ (rec : Record) (w : List ℕ) (a : TestAnswer) (e : a ≡ codeword_answ
 module _ (rec : Record) (i j x : ℕ) (e : x ≡ (first_reason (places_reasons rec i j)).number) where
   abbrev left : Reason
   left = left_out rec.s (third_old_place_in rec i j)
-
-  pub third-refused : x ≢ 0 → record { refusal = x; place = 0 } ≡ third_answer rec i j
-  unfolding third_answer
-  third-refused h =
-      let k : (first_reason (places_reasons rec i j)).number ≢ 0 = λ y. h (e ∙ y) in
-      let f = first-before (places_reasons rec i j) (left ∷ []) k in
-      let p = no_place (places_reasons rec i j) (refl, (refl, (refl, (refl, (refl, (refl, tt)))))) in
-      rw (f, if-refused _ _ _ k, ← e, p)
 
   module _ (h : x ≡ 0) (q : ℕ) (g : q ≡ shortened_third_for rec.t rec.r rec.s i j) where
     z : (first_reason (places_reasons rec i j)).number ≡ 0

@@ -1,8 +1,8 @@
 -- What it is for a record to be open and fit, and usable, and how the reasons 21, 22 and 10 come before any other. Assumes nothing.
-use mathlib.Core.Path.{◌≡◌, refl, sym, ap, ◌∙◌}
-use mathlib.Core.Logic.{◌≢◌, ◌⊎◌, inl, inr}
+use mathlib.Core.Path.{◌≡◌, refl, ap}
+use mathlib.Core.Logic.{◌⊎◌, inl, inr}
 use mathlib.Core.List.{List, ◌++◌}
-use mathlib.Core.Bool.{Bool, true, false, ◌&&◌, ◌||◌, not, true≢false}
+use mathlib.Core.Bool.{Bool, true, false, ◌||◌, not, true≢false}
 use Prim.Native.Nat.{ℕ, ◌+◌, ◌-◌}
 use native.Mathlib.Omega.{arith}
 use lib.Dec.{eqb}
@@ -13,7 +13,6 @@ use Rattle.words_theory.specs.Words.{Word}
 use Rattle.words_theory.specs.Syndrome.{length_of}
 use Rattle.shortened_theory.specs.Allowed.{Allowed, allows}
 use Rattle.shortened_theory.specs.Code.{fill}
-use Rattle.shortened_theory.specs.Calls.{allowed_for}
 use Rattle.shortened_theory.specs.Claims.{ShortenedOf}
 use Rattle.shortened_theory.proofs.Between.{allows-allowed, allowed-allows, zero-allowed}
 use Rattle.shortened_theory.proofs.Filling.{word-fill}
@@ -22,17 +21,13 @@ use Rattle.coder_theory.specs.State.{Fit, Usable, RecordOf, is_closed, is_unfit,
 use Rattle.coder_theory.specs.Reasons.{Reason, first_reason}
 use Rattle.coder_theory.specs.Calls.{state_reasons}
 use Rattle.coder_theory.specs.declared.Record.{Record}
-use Rattle.coder_theory.proofs.Firsts.{first-before, first_past, accepted-none}
+use Rattle.coder_theory.proofs.Firsts.{first_past, accepted-none}
 
 -- none of 21, 22 and 10 applies
 abbrev pub Clear : Record → Type 0
 Clear rec = (is_closed rec ≡ false) × (is_unfit rec ≡ false) × (is_not_allowed rec ≡ false)
 
 -- ---- the first of 21, 22 and 10, before further reasons
-pub state-number : (rec : Record) (rs : List Reason) → (first_reason (state_reasons rec)).number ≢ 0
-    → first_reason (state_reasons rec ++ rs) ≡ first_reason (state_reasons rec)
-state-number rec rs h = first-before (state_reasons rec) rs h
-
 pub state-clear : (rec : Record) → (first_reason (state_reasons rec)).number ≡ 0 → Clear rec
 state-clear rec h = let n = accepted-none (state_reasons rec) refl h in (n.0, n.1.0, n.1.1.0)
 
@@ -85,11 +80,6 @@ usable-true rec u =
 pub true-usable : (rec : Record) → is_unfit rec ≡ false → is_not_allowed rec ≡ false → Usable rec
 true-usable rec h k =
     record { fit = true-fit rec h; allowed = allows-allowed rec.t rec.r rec.s (not_back (allows rec.t rec.r rec.s) k) }
-
--- the test of s, where t and r are admitted
-pub allows-by : (t r s : ℕ) (b : Bool) → admits t r ≡ true → allowed_for t r s ≡ b → allows t r s ≡ b
-unfolding allowed_for
-allows-by t r s b y e = ap (λ (x : Bool). x && allows t r s) (sym y) ∙ e
 
 -- an open and fit record of a code whose s is allowed is usable; with s = 0 it always is
 pub usable-of : (t r s : ℕ) (rec : Record) → Allowed t r s → RecordOf t r s rec → Usable rec

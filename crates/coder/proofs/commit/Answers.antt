@@ -3,5 +3,5 @@ use Rattle.coder_theory.proofs.Asking.{commit-counts}
 use Rattle.coder.proofs.Accepts.{if-accepted}
 use Rattle.coder.proofs.commit.Goals as goal
 
-pub counted-requires : goal.counted-requires
-counted-requires c = if-accepted _ _ _ c.committed.ensures.answer (commit-counts _ _ _)
+pub change-requires : goal.change-requires
+change-requires c = if-accepted _ _ _ c.committed-changed.ensures.answer (commit-counts _ _ _)

@@ -3,5 +3,5 @@ use Rattle.coder_theory.proofs.Corrections.{correct-counts}
 use Rattle.coder.proofs.Accepts.{if-accepted}
 use Rattle.coder.proofs.correct.Goals as goal
 
-pub counted-requires : goal.counted-requires
-counted-requires c = if-accepted _ _ _ c.corrected.ensures.answer (correct-counts _ _ _)
+pub change-requires : goal.change-requires
+change-requires c = if-accepted _ _ _ c.corrected-changed.ensures.answer (correct-counts _ _ _)

@@ -6,12 +6,12 @@ use Prim.Native.Nat.{ℕ}
 use lib.ListN.{length}
 use Rattle.words_theory.specs.Calls.{if_bits}
 use Rattle.coder_theory.specs.State.{places_in, message_in}
-use Rattle.coder_theory.specs.Reasons.{Reason, first_reason, bad_place, bad_byte}
-use Rattle.coder_theory.specs.Calls.{answer_of, encode_answer}
+use Rattle.coder_theory.specs.Reasons.{Reason, first_reason, bad_place}
+use Rattle.coder_theory.specs.Calls.{encode_answer}
 use Rattle.coder_theory.specs.declared.Answer.{Answer}
-use Rattle.coder_theory.proofs.Firsts.{accepted-none, first_past}
 use Rattle.coder_theory.proofs.Reading.{early}
 use Rattle.coder_theory.proofs.Outputs.{message-ready, encode-bytes}
+use Rattle.checks.specs.Told.{told}
 use Rattle.coder.proofs.Bits.{by_place, mapped, told-bits}
 use Rattle.coder.proofs.work.encoded.Goals as goal
 use Rattle.coder.proofs.work.encoded.Goals.{After-map_err}
@@ -34,9 +34,7 @@ pub returns : goal.returns
 unfolding encode_answer
 returns c =
     let q = (goal.at.returns c).After-map_err in
-    let g = c.args in
     record {
-      answer = rw (passed q)
-          (told-bits _ g.message.now (bad_place g.message.now) refl ∙ sym (ap answer_of (first_past (before q) (bad_byte g.message.now ∷ []) (accepted-none _ refl (clear q)))));
+      answer = ap (told {A = Unit {0}}) (passed q) ∙ told-bits {A = Unit {0}} tt (before q) c.args.message.now refl (clear q);
       bytes = (rw c.code.ensures at c.encode.ensures.bytes) ∙ encode-bytes _ _ _ (clear q);
     }
