@@ -1,6 +1,5 @@
 -- `coder::work::asked` meets its contract: what is asked of the word, as of one with room for itself, and then the place at fault. Assumes nothing.
 use mathlib.Core.Path.{ap, refl, ◌∙◌}
-use Rattle.coder_theory.specs.Reasons.{Reason}
 use Rattle.coder_theory.specs.Calls.{answer_of}
 use Rattle.coder_theory.proofs.Outcomes.{word_room}
 use Rattle.coder_theory.proofs.Asking.{ask-told}

@@ -1,8 +1,8 @@
 -- `coder::work::element_of` meets its contract: past the check the place is one of the record's. Assumes nothing.
 use borrow.Author.Rules.{rules}
-use mathlib.Core.Path.{◌≡◌, refl, sym, ap, ap₂, ◌∙◌}
+use mathlib.Core.Path.{refl, sym, ap, ◌∙◌}
 use mathlib.Core.Logic.{◌≢◌}
-use Prim.Native.Nat.{ℕ, ◌≤◌}
+use Prim.Native.Nat.{◌≤◌}
 use native.Mathlib.Omega.{arith}
 use Rattle.coder_theory.specs.State.{Usable, places_in}
 use Rattle.coder_theory.specs.declared.Answer.{Answer}

@@ -1,7 +1,7 @@
 -- `coder::work::encoded` meets its contract: what is found before the bytes, and then what the pass over them finds. Assumes nothing.
 use borrow.Author.Rules.{rules}
 use mathlib.Core.Path.{◌≡◌, refl, sym, ap, ◌∙◌}
-use mathlib.Core.List.{List, [], ◌∷◌, ◌++◌}
+use mathlib.Core.List.{List}
 use Prim.Native.Nat.{ℕ}
 use lib.ListN.{length}
 use Rattle.words_theory.specs.Calls.{if_bits}

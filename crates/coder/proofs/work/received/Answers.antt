@@ -1,9 +1,9 @@
 -- `coder::work::received` meets its contract: what is found before the bytes, and then what the pass over them finds. Assumes nothing.
 use borrow.Author.Rules.{rules}
 use mathlib.Core.Path.{◌≡◌, refl, sym, ap, subst, ◌∙◌}
-use mathlib.Core.List.{List, [], ◌∷◌}
+use mathlib.Core.List.{List}
 use Prim.Native.Nat.{ℕ}
-use Rattle.std.specs.Prelude.{Result, Ok, Err, IfOk}
+use Rattle.std.specs.Prelude.{Result, Ok, IfOk}
 use Rattle.shortened_theory.specs.Calls.{shortened_syndrome_for}
 use Rattle.coder_theory.specs.State.{places_in}
 use Rattle.coder_theory.specs.Reasons.{Reason, first_reason, bad_place}

@@ -1,5 +1,5 @@
 -- `coder::work::third` meets its contract. Assumes nothing.
-use mathlib.Core.Path.{sym, ap, refl}
+use mathlib.Core.Path.{ap, refl}
 use Rattle.coder_theory.specs.declared.Answer.{Answer}
 use Rattle.coder_theory.proofs.Outcomes.{third-told}
 use Rattle.coder.proofs.work.third.Goals as goal
