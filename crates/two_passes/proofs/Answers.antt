@@ -1,9 +1,8 @@
 -- What the functions on words answer, by their tests: those of a whole code, and the place at fault of one that may be shortened. Assumes nothing.
 use mathlib.Core.Path.{◌≡◌, refl, sym, ap, ap₂, subst, ◌∙◌}
-use mathlib.Core.Logic.{◌≢◌}
 use mathlib.Core.Bool.{Bool, true, false, and-false}
 use mathlib.Core.List.{List, [], ◌∷◌, ◌++◌}
-use Prim.Native.Nat.{ℕ, zero, suc, ◌+◌, ◌-◌, ◌^◌, ◌<◌, ◌≤◌}
+use Prim.Native.Nat.{ℕ, ◌+◌, ◌^◌, ◌<◌, ◌≤◌}
 use native.Mathlib.Omega.{arith}
 use borrow.Author.Tests.{le-leb, lt-leb}
 use borrow.Rule.Slice.PartMut.{put_mid}
@@ -11,16 +10,11 @@ use lib.ListN.{length, take, get_or, length-replicate}
 use lib.Pow.{pow_mono}
 use Rattle.std.proofs.lemmas.List.{take-replicate}
 use Rattle.std.proofs.lemmas.Slice.{take-put_mid}
-use Rattle.group_theory.specs.Group.{Modulus, moduli}
-use Rattle.layout_theory.specs.Layout.{slots}
-use Rattle.words_theory.specs.Halves.{other_at}
-use Rattle.words_theory.proofs.Shapes.{other-within}
-use Rattle.places.specs.OtherHalf.{other_half_for}
 use Rattle.layout_theory.specs.Choice.{zero_unless}
 use Rattle.layout_theory.specs.Parameters.{admits, places_of, moduli_for}
 use Rattle.layout_theory.specs.Calls.{shape_for}
 use Rattle.layout_theory.specs.declared.Shape.{Shape}
-use Rattle.layout_theory.proofs.Parameters.{admits-admitted, admitted-admits, below_power, Known, known, moduli-known}
+use Rattle.layout_theory.proofs.Parameters.{admits-admitted, admitted-admits, below_power, Known}
 use Rattle.words_theory.specs.Words.{zero_word}
 use Rattle.words_theory.specs.Calls.{fault, bad_from}
 use Rattle.words_theory.proofs.Bad.{bad-found}
@@ -110,25 +104,6 @@ filled-word s n k w y e h =
     let l = length-replicate {A = ℕ} n 0 in
     let m : length y ≡ length w = ap length e in
     take-put_mid s k (zero_word n) y (s + length w) (omega arith) (omega arith) ∙ ap₂ (λ (t u : List ℕ). t ++ u) (take-replicate s n 0 (omega arith)) e
-
--- ---- the other half q of a place p
-pub record Other (s : Shape) (p q : ℕ) : Type 0 where
-  pub place : p ≤ s.places
-  pub some : 1 ≤ q
-  pub most : q ≤ s.places
-  pub index : q - 1 ≡ other_at (slots (moduli s.a s.b)) (p - 1)
-
-pub other-told : (t r : ℕ) (s : Shape) → s ≡ shape_for t r → (p q : ℕ) → p ≢ 0 → p ≤ s.places → q ≡ other_half_for t r p → Other s p q
-unfolding other_half_for
-other-told t r s o zero q n h e = absurd (n refl)
-other-told t r s o (suc i) q n h e =
-    let k = known t r s o (omega arith) in
-    let m = moduli-known t r s k in
-    let x : suc i - 1 ≡ i = omega arith in
-    let y = other-within s (t, r, o) (omega arith) i (omega arith) in
-    let z : q ≡ suc (other_at (slots (moduli s.a s.b)) i) =
-    e ∙ rw (admitted-admits t r k.admitted, le-leb 1 (suc i) (omega arith), le-leb (suc i) (places_of t) (omega (arith, k.places))) (ap (λ (ms : List Modulus). suc (other_at (slots ms) i)) (sym m)) in
-    record { place = h; some = omega arith; most = omega arith; index = rw x (omega arith) }
 
 -- ---- bytes above 1
 pub no-bad : (w : List ℕ) → ((k : ℕ) → k < length w → get_or w k 0 ≤ 1) → record { refusal = 0; place = 0 } ≡ answer_of (first_reason (bad_byte w ∷ []))

@@ -17,10 +17,16 @@ use Rattle.words_theory.specs.Digits.{digit}
 use Rattle.words_theory.proofs.Combining.{digit_lt}
 use Rattle.loops_theory.specs.Spread.{row, HoldsMessage}
 use Rattle.loops_theory.proofs.Laying.{digit_at, Pairing, Segment, pairing-asks, SinglesRoom, room_for}
-use Rattle.loops_theory.proofs.Parts.{row-bytes, row-part}
+use Rattle.loops_theory.proofs.Parts.{Laid, row-bytes, row-part}
 use Rattle.loops_theory.proofs.Singles.{Singled, singled-asks, singled-end, length-segment, in-row, in-all}
 
 -- ---- digits
+-- all of a list was written
+pub laid-end : (g v : List ℕ) (i : ℕ) → Laid g v i → length v ≤ i → v ≡ g
+laid-end g v i f h =
+    let s = f.same in
+    sym (take_all i v h) ∙ f.front ∙ take_all i g (omega arith)
+
 -- what the loop writes at an even index and at an odd one
 pub digit-laid : (w : List ℕ) (n i d x : ℕ) → x ≡ pick (eqb (i % 2) 0) (d % 4) 0 → d ≡ digit (get_or w i 0) (get_or w (i + 1) 0) → i < 2 * n
     → x ≡ get_or (row true n w) i 0

@@ -5,8 +5,8 @@ use Prim.Native.Nat.{ℕ, ◌+◌, ◌*◌, ◌/◌}
 use native.Mathlib.Omega.{arith}
 use lib.ListN.{length, length-set}
 use Rattle.loops_theory.proofs.Laying.{length-row}
-use Rattle.loops_theory.proofs.Parts.{laid-start, laid-step, laid-end}
-use Rattle.two_passes.proofs.Segments.{none-laid, digit-laid, last-laid}
+use Rattle.loops_theory.proofs.Parts.{laid-start, laid-step}
+use Rattle.two_passes.proofs.Segments.{laid-end, none-laid, digit-laid, last-laid}
 use Rattle.two_passes.proofs.weights.digits.Goals as goal
 use Rattle.two_passes.proofs.weights.digits.Goals.{In-Some}
 
