@@ -403,6 +403,14 @@ module _ (a b : ℕ) (s : Sign) (x : List ℕ) (y : Signed a b s x) where
       let t0 = t.0 in
       (t.0, omega arith, ap (times (moduli a b) (factor_of s)) t.1 ∙ odd-twice (moduli a b) s x y.valid)
 
+-- where a block starts, computed
+pub start-at : (d s m : ℕ) → d < 4 → (d + 1) / 2 * s + d / 2 * m ≡ offset d s m
+start-at zero s m l = omega arith
+start-at (suc zero) s m l = omega arith
+start-at (suc (suc zero)) s m l = omega arith
+start-at (suc (suc (suc zero))) s m l = omega arith
+start-at (suc (suc (suc (suc d)))) s m l = absurd (omega arith)
+
 -- ---- the number of the binary digits
 number-unused : (n a : ℕ) (y : List ℕ) → number (drop a (moduli_of n a 0)) y ≡ 0
 unfolding number

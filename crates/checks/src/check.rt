@@ -56,9 +56,7 @@ pub fn message(record: Record, message: &[u8], room: usize) -> Result<(), Refusa
 pub fn written(record: Record, word: &[u8], room: usize) -> Result<(), Refusal>
     ensures { told result ≡ answer_of (first_reason (write_reasons «record» (places_in «record») word.now room)) }
 {
-    let size = fit::usable(record)?;
-    of_length(size.places, word)?;
-    with_room(size.places, room)?;
+    self::word(record, word, room)?;
     all_bits(word)
 }
 

@@ -1,7 +1,7 @@
 -- What the calls on words and places answer, by the first reason that applies: what their proofs cite. Assumes nothing.
-use mathlib.Core.Path.{◌≡◌, refl, sym, ap, ◌∙◌}
+use mathlib.Core.Path.{◌≡◌, refl, sym, ap, ap₂, ◌∙◌}
 use mathlib.Core.Logic.{◌≢◌, ◌⊎◌, inl, inr, ⊎_elim}
-use mathlib.Core.List.{List, [], ◌∷◌}
+use mathlib.Core.List.{List, [], ◌∷◌, ◌++◌}
 use mathlib.Core.Bool.{Bool, true, false, not, false≢true}
 use Prim.Native.Nat.{ℕ, zero, suc, ◌-◌, ◌≤◌}
 use native.Mathlib.Omega.{arith}
@@ -27,7 +27,7 @@ use Rattle.coder_theory.specs.Calls.{places_reasons, third_reasons, third_answer
 use Rattle.coder_theory.specs.declared.Record.{Record}
 use Rattle.coder_theory.specs.declared.Answer.{Answer}
 use Rattle.coder_theory.specs.declared.TestAnswer.{TestAnswer}
-use Rattle.coder_theory.proofs.Firsts.{first-yes, first-no, first-end, first-after, first_past, accepted-none}
+use Rattle.coder_theory.proofs.Firsts.{Placeless, numbered, first-yes, first-no, first-end, first-before, first-after, first_past, accepted-none, no_place}
 use Rattle.coder_theory.proofs.States.{usable-true, true-usable, or-false}
 use Rattle.coder_theory.proofs.Answers.{usable-length}
 
@@ -65,6 +65,25 @@ word_room rec w = first-after (state_reasons rec) _ _ (go (eqb (length w) (place
         let l = eqb-true (length w) n e in
         first-no (wrong_length n w) _ (ap not e) ∙ first-no (short_output n (length w)) _ (le-ltb (length w) n (omega arith)) ∙ sym (first-no (wrong_length n w) _ (ap not e))
     go false e = first-yes (wrong_length n w) _ (ap not e) ∙ sym (first-yes (wrong_length n w) _ (ap not e))
+
+-- ---- 4 comes last, by the place that a pass found
+module _ (early : List Reason) (quiet : Placeless early) (some : numbered early ≡ true) (w : List ℕ) (x : ℕ) (e : x ≡ (first_reason early).number) where
+  pub byte-stopped : x ≢ 0 → record { refusal = x; place = 0 } ≡ answer_of (first_reason (early ++ (bad_byte w ∷ [])))
+  byte-stopped h =
+      ap₂ {C = Answer} (λ (n p : ℕ). record { refusal = n; place = p }) e (sym (no_place early quiet))
+      ∙ sym (ap answer_of (first-before early (bad_byte w ∷ []) (λ z. h (e ∙ z))))
+
+  module _ (z : x ≡ 0) (p : ℕ) (f : p ≡ bad_place w) where
+    last : first_reason (early ++ (bad_byte w ∷ [])) ≡ first_reason (bad_byte w ∷ [])
+    last = first_past early (bad_byte w ∷ []) (accepted-none early some (sym e ∙ z))
+
+    pub byte-refused : p ≢ 0 → record { refusal = 4; place = p } ≡ answer_of (first_reason (early ++ (bad_byte w ∷ [])))
+    byte-refused h = byte-bad w p f h [] ∙ sym (ap answer_of last)
+
+    pub byte-accepted : p ≡ 0 → record { refusal = 0; place = p } ≡ answer_of (first_reason (early ++ (bad_byte w ∷ [])))
+    byte-accepted h =
+        ap {B = Answer} (λ (p : ℕ). record { refusal = 0; place = p }) h
+        ∙ sym (ap answer_of (last ∙ first-no (bad_byte w) [] (byte-good w p f h) ∙ first-end))
 
 -- ---- what an accepted call on a word knows, and what the functions on plain words then answer
 pub right-length : (n : ℕ) (w : List ℕ) → (wrong_length n w).applies ≡ false → length w ≡ n

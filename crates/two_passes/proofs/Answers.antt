@@ -23,14 +23,10 @@ use Rattle.shortened_theory.specs.Code.{fill}
 use Rattle.shortened_theory.specs.Calls.{Fits, fits_word, shortened_fault_for}
 use Rattle.shortened_theory.proofs.Filling.{length-fill}
 use Rattle.shortened_theory.proofs.Guards.{word_fits}
-use Rattle.coder_theory.specs.declared.Record.{Record}
-use Rattle.coder_theory.specs.State.{places_in}
-use Rattle.coder_theory.specs.Reasons.{first_reason, bad_byte, wrong_length, short_output}
-use Rattle.coder_theory.specs.Calls.{answer_of, state_reasons}
-use Rattle.coder_theory.proofs.Firsts.{first-no, first-end, accepted-none}
-use Rattle.coder_theory.proofs.Bounds.{places-bound}
-use Rattle.coder_theory.proofs.States.{true-usable}
-use Rattle.coder_theory.proofs.Outcomes.{byte-bad, byte-good, right-length}
+use Rattle.coder_theory.specs.Reasons.{first_reason, bad_byte}
+use Rattle.coder_theory.specs.Calls.{answer_of}
+use Rattle.coder_theory.proofs.Firsts.{first-no, first-end}
+use Rattle.coder_theory.proofs.Outcomes.{byte-bad, byte-good}
 use Rattle.two_passes.specs.Calls.{is_long, fault_for}
 
 -- ---- the test of t and r and of a word's length
@@ -114,13 +110,3 @@ pub first-bad : (w : List ℕ) (i : ℕ) → i < length w → 1 < get_or w i 0 �
 first-bad w i h a f =
     let e : i + 1 ≡ bad_from 1 w = sym (bad-found w i h a) ∙ bad-begin w i (omega arith) (λ k b l. f k l) in
     byte-bad w (i + 1) e (omega arith) []
-
--- a word that was found to be of its length
-pub few-places : (rec : Record) (w : List ℕ) (room : ℕ)
-    → (first_reason (state_reasons rec ++ (wrong_length (places_in rec) w ∷ short_output (places_in rec) room ∷ []))).number ≡ 0
-    → length w < 4294967296
-few-places rec w room e =
-    let h = accepted-none (state_reasons rec ++ (wrong_length (places_in rec) w ∷ short_output (places_in rec) room ∷ [])) refl e in
-    let l = right-length (places_in rec) w h.1.1.1.0 in
-    let b = places-bound rec (true-usable rec h.1.0 h.1.1.0) in
-    omega arith

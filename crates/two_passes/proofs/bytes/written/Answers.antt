@@ -1,7 +1,7 @@
 -- `two_passes::bytes::written` meets its contract: a word of its length has few enough bytes for its places to be told. Assumes nothing.
 use mathlib.Core.Path.{sym, ap}
 use Rattle.coder_theory.specs.declared.Answer.{Answer}
-use Rattle.two_passes.proofs.Answers.{few-places}
+use Rattle.checks.proofs.Lengths.{few-places}
 use Rattle.two_passes.proofs.bytes.written.Goals as goal
 
 pub all_bits-requires : goal.all_bits-requires
