@@ -34,13 +34,21 @@ pub fn places(record: Record, i: u32, j: u32) -> Result<(), Refusal>
     Ok(())
 }
 
-// 21, 22, 10, 2 and 3 of a word and an output that is to hold one.
+// 21, 22, 10, 2 and 3: n bytes are asked of the word, and the output has `room` bytes of which `need` are
+// needed.
+pub fn sizes(record: Record, n: u32, word: &[u8], need: u32, room: usize) -> Result<(), Refusal>
+    ensures { told result ≡ answer_of (first_reason (state_reasons «record» ++ (wrong_length n word.now ∷ short_output need room ∷ []))) }
+{
+    fit::state(record)?;
+    of_lengths(n, word, need, room)
+}
+
+// The same of a word and an output that is to hold one.
 pub fn word(record: Record, word: &[u8], room: usize) -> Result<(), Refusal>
     ensures { told result ≡ answer_of (first_reason (state_reasons «record» ++ (wrong_length (places_in «record») word.now ∷ short_output (places_in «record») room ∷ []))) }
 {
     let size = fit::usable(record)?;
-    of_length(size.places, word)?;
-    with_room(size.places, room)
+    of_lengths(size.places, word, size.places, room)
 }
 
 // The same of a message and an output that is to hold its codeword.
@@ -48,8 +56,7 @@ pub fn message(record: Record, message: &[u8], room: usize) -> Result<(), Refusa
     ensures { told result ≡ answer_of (first_reason (state_reasons «record» ++ (wrong_length (message_in «record») message.now ∷ short_output (places_in «record») room ∷ []))) }
 {
     let size = fit::usable(record)?;
-    of_length(size.message, message)?;
-    with_room(size.places, room)
+    of_lengths(size.message, message, size.places, room)
 }
 
 // 21, 22, 10, 2, 3 and 4 of a word and an output that is to hold one.
@@ -101,6 +108,14 @@ fn not_full(record: Record) -> Result<(), Refusal>
         return Err(Refusal::Full);
     }
     Ok(())
+}
+
+// 2 and 3: n bytes are asked of a word or a message, and `need` of an output that has `room`.
+fn of_lengths(n: u32, word: &[u8], need: u32, room: usize) -> Result<(), Refusal>
+    ensures { told result ≡ answer_of (first_reason (wrong_length n word.now ∷ short_output need room ∷ [])) }
+{
+    of_length(n, word)?;
+    with_room(need, room)
 }
 
 // 2: n bytes are asked of a word or a message.
