@@ -81,6 +81,7 @@ fn digits(word: &[u8], v: &mut [u8]) -> u8
     ensures most { Highest word.now 0 (length v.old) result }
     ensures laid { v.new ≡ row true (length v.old / 2) word.now }
 {
+    // The neighbours by a slice of their own: with `word[i + 1]` the compiler makes half as many instructions again.
     let next = &word[1..];
     let mut most: u8 = 0;
     for (i, x) in v.iter_mut().enumerate() {

@@ -51,7 +51,8 @@ pub(crate) fn message_sum(h: Shape, d: usize, word: &[u8], seen: usize) -> Optio
 }
 
 impl Message<'_> {
-    // The sum by an array of weights that has room for codes up to t = 6, 10 and 12.
+    // The sum by an array of weights that has room for codes up to t = 6, 10 and 12. It and what it calls here are
+    // always inlined: so the two calls above stay two when compiled, one of them without cutting.
     #[inline(always)]
     fn sum<const CUT: bool>(&self, seen: usize) -> Option<Element>
         requires { IsMessage self.now × BitsIn (filled self.now.filled) 0 seen × (CUT ≡ false → self.now.filled.d ≡ 0) }

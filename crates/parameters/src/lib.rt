@@ -16,22 +16,11 @@ pub use layout_theory::Shape;
 const LONGEST: u32 = 12;
 
 // Whether t and r are admitted.
+#[tactic(auto, unfolding(layout_theory::specs::Parameters::admits))]
 pub fn admitted(t: u32, r: u32) -> bool
     ensures { result ≡ admits t r }
 {
-    if t < 2 {
-        return false;
-    }
-    if LONGEST < t {
-        return false;
-    }
-    if r < 1 {
-        return false;
-    }
-    if t < r {
-        return false;
-    }
-    t - r <= r
+    2 <= t && t <= LONGEST && 1 <= r && r <= t && t - r <= r
 }
 
 // r, or t where r is given as 0: the Hamming code. The sheet and the calls for C ask for it before they
@@ -116,13 +105,7 @@ impl Code {
 fn ends(part: u32, message: u32, s: u32) -> bool
     ensures { result ≡ (ends_whole part s && ltb s message) }
 {
-    if s <= part {
-        return s < message;
-    }
-    if (s - part) % 2 == 0 {
-        return s < message;
-    }
-    false
+    (s <= part || (s - part) % 2 == 0) && s < message
 }
 
 // Whether p is one of n places.

@@ -14,15 +14,15 @@ ok c = admits-admitted _ _ (sym c.admitted.ensures ∙ c.if-admitted.true)
 
 pub overflow_cast-a : goal.overflow_cast-a
 overflow_cast-a c =
-    let a = ok c.before.before in
+    let a = ok ((goal.at.overflow_cast-a c).Then-admitted) in
     let k = shape-known _ _ 0 a _ c.shape-h.ensures in
     omega (arith, k.a)
 
 pub overflow_sub-part : goal.overflow_sub-part
-overflow_sub-part c = part_small _ _ 0 (ok c.before.before.before) _ c.shape-h.ensures
+overflow_sub-part c = part_small _ _ 0 (ok ((goal.at.overflow_sub-part c).Then-admitted)) _ c.shape-h.ensures
 
 pub returns-then-admitted : goal.returns-then-admitted
-returns-then-admitted c = shape-allows _ _ _ (ok c.before.before.before.before) _ c.shape-h.ensures _ c.ends.ensures
+returns-then-admitted c = shape-allows _ _ _ (ok ((goal.at.returns-then-admitted c).Then-admitted)) _ c.shape-h.ensures _ c.ends.ensures
 
 pub returns : goal.returns
 unfolding allowed_for
