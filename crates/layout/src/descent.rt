@@ -139,8 +139,8 @@ fn bits(a: usize, k: u32, x: Element) -> Element
 {
     let mut r = x;
     let mut left = k;
-    for i in 0..a {
-        r[i] = (left % 2) as u8;
+    for digit in r[..a].iter_mut() {
+        *digit = (left % 2) as u8;
         left /= 2;
     }
     r
@@ -202,8 +202,8 @@ fn low_number(a: usize, x: Element) -> u32
     ensures { result ≡ number (moduli a 0) x }
 {
     let mut u = 0;
-    for i in (0..a).rev() {
-        u = 2 * u + u32::from(x[i] % 2);
+    for digit in x[..a].iter().rev() {
+        u = 2 * u + u32::from(*digit % 2);
     }
     u
 }
