@@ -96,7 +96,7 @@ fn after(kind: Kind, d: u8) -> Kind
 }
 
 // The kind among whose numbers an element of a sign is sought.
-fn kind(sign: Sign) -> Kind
+fn kind_of(sign: Sign) -> Kind
     ensures { result ≡ kind_of sign }
 {
     match sign {
@@ -106,7 +106,7 @@ fn kind(sign: Sign) -> Kind
 }
 
 // What an element of a sign is multiplied by to be the one whose number is sought, and that one to be it.
-fn factor(sign: Sign) -> u8
+fn factor_of(sign: Sign) -> u8
     ensures { result ≡ factor_of sign }
 {
     match sign {
@@ -122,10 +122,10 @@ fn top(m: Moduli, sign: Sign, k: u32) -> (Element, u32)
 {
     let mut r = [0u8; 12];
     let mut i = k;
-    let mut kind = kind(sign);
+    let mut kind = kind_of(sign);
     for j in (0..m.b).rev() {
         let (d, index) = Blocks::of(m, j, kind).find(i);
-        r[m.a + j] = (factor(sign) * d) % 4;
+        r[m.a + j] = (factor_of(sign) * d) % 4;
         i = index;
         kind = after(kind, d);
     }
@@ -139,8 +139,8 @@ fn bits(a: usize, k: u32, x: Element) -> Element
 {
     let mut r = x;
     let mut left = k;
-    for i in 0..a {
-        r[i] = (left % 2) as u8;
+    for digit in r[..a].iter_mut() {
+        *digit = (left % 2) as u8;
         left /= 2;
     }
     r
@@ -187,9 +187,9 @@ fn base(m: Moduli, sign: Sign, x: Element) -> u32
     ensures { Based m.a m.b (kind_of sign) (times (moduli m.a m.b) (factor_of sign) x) result }
 {
     let mut k = 0;
-    let mut kind = kind(sign);
+    let mut kind = kind_of(sign);
     for j in (0..m.b).rev() {
-        let d = (factor(sign) * x[m.a + j]) % 4;
+        let d = (factor_of(sign) * x[m.a + j]) % 4;
         k += Blocks::of(m, j, kind).start(d);
         kind = after(kind, d);
     }
@@ -202,8 +202,8 @@ fn low_number(a: usize, x: Element) -> u32
     ensures { result ≡ number (moduli a 0) x }
 {
     let mut u = 0;
-    for i in (0..a).rev() {
-        u = 2 * u + u32::from(x[i] % 2);
+    for digit in x[..a].iter().rev() {
+        u = 2 * u + u32::from(*digit % 2);
     }
     u
 }

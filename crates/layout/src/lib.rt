@@ -1,7 +1,9 @@
 // The layout of places: the element of a place, and the place of an element. No table is kept: an
 // element's index among those of its sign follows from its digits, and the other way round (descent.rt),
 // and the units before it are left out (skip.rt). What the two answer is defined in crate layout_theory,
-// specs/Layout.antt and Calls.antt; why the way there is right is crate blocks_theory.
+// specs/Layout.antt and Calls.antt; why the way there is right is crate blocks_theory. No Option: place 0 for
+// none is document 01's own number, and so `place_for`'s. Private functions say `a + b <= 12` each for itself,
+// since the public `Moduli` is for any a and b.
 #![tactic(auto)]
 
 mod descent;

@@ -2,7 +2,8 @@
 // third place of two; and the inverse of a word, which swaps the two places of each pair. Every input is answered:
 // 0, or nothing written, where t and r are not admitted, s is not allowed, a place is none of the code's, or a
 // word or an output is too short. What each function answers is defined in crates words_theory and
-// shortened_theory, specs/Calls.antt, and in specs/OtherHalf.antt.
+// shortened_theory, specs/Calls.antt, and in specs/OtherHalf.antt. No Option: place 0 for none is document 01's own
+// number, and so that of `fault_at_for`, `third_for` and `other_half_for`, as `width_for` has 0, 1 and 2.
 #![tactic(auto)]
 
 mod halves;

@@ -1,7 +1,8 @@
 // Places of a shortened code, with no record (request C-17): the first s places of a message are left out, and
 // places are renumbered from 1. Here they are asked for by their old numbers: which are left out, which are
 // binary or of a pair, and the third place of two. Every input is answered; 0 where t and r are not admitted,
-// s is not allowed, or a place is none of the code's (crate shortened_theory, specs/Calls.antt).
+// s is not allowed, or a place is none of the code's (crate shortened_theory, specs/Calls.antt). No Option: place 0
+// for none is document 01's own number, and so `shortened_third_for`'s, as `shortened_width_for` has 0, 1 and 2.
 #![tactic(auto)]
 
 ghost use Rattle.std.specs.Prelude.{◌≡◌};

@@ -5,7 +5,7 @@ use Prim.Native.Nat.{◌+◌, ◌*◌, ◌%◌, ◌-◌, ◌^◌, ◌<◌}
 use lib.ListN.{get_or, drop}
 use native.Mathlib.Omega.{arith}
 use Rattle.group_theory.specs.Group.{one, radix, moduli, number}
-use Rattle.group_theory.proofs.Fill.{number-turn, number-none, modulus-pos}
+use Rattle.group_theory.proofs.Fill.{number-turn, number-none}
 use Rattle.group.proofs.Moduli.number_of.Goals as goal
 use Rattle.group.proofs.Moduli.number_of.Goals.{After-modulus-m}
 
@@ -26,9 +26,6 @@ overflow_mul-n c =
     let t = turn ((goal.at.overflow_mul-n c).After-modulus-m) in
     rw (c.from.ensures, c.modulus-m.ensures) (omega (arith, t.0, t.1))
 
-pub nonzero_rem-x : goal.nonzero_rem-x
-nonzero_rem-x c = rw c.modulus-m.ensures (modulus-pos _ _ _)
-
 pub overflow_add-n : goal.overflow_add-n
 overflow_add-n c =
     let t = turn ((goal.at.overflow_add-n c).After-modulus-m) in
@@ -38,6 +35,3 @@ pub loop-i-preserved : goal.loop-i-preserved
 loop-i-preserved c =
     let t = turn ((goal.at.loop-i-preserved c).After-modulus-m) in
     (omega arith, rw (c.from-in-loop-i.ensures, c.from.ensures, c.modulus-m.ensures) t.0)
-
-pub returns : goal.returns
-returns c = let z : c.loop-i.i ≡ 0 = omega arith in rw z at c.loop-i.invariant.1

@@ -13,25 +13,25 @@ use Rattle.layout.proofs.descent.base.Goals.{After-start-k}
 pub loop-j-init : goal.loop-j-init
 loop-j-init c =
     let g = c.args in
-    rw c.kind-kind.ensures (rising-start g.m.a g.m.b g.sign g.x c.requires)
+    rw c.kind_of-kind.ensures (rising-start g.m.a g.m.b g.sign g.x c.requires)
 
 pub overflow_mul-d : goal.overflow_mul-d
 overflow_mul-d c =
     let g = c.args in
     let d = (sign-turn g.m.a g.m.b c.requires.room g.x c.requires.valid _ c.loop-j-test.true c.loop-j.invariant.down).0 in
-    rw c.factor.ensures (omega (arith, factor-small g.sign _ d))
+    rw c.factor_of.ensures (omega (arith, factor-small g.sign _ d))
 
 -- what a turn makes
 turn : (c : After-start-k)
     → let l = c.loop-j in
     let g = c.args in
-    let d = c.factor.result * get_or g.x (g.m.a + (l.j - 1)) 0 % 4 in
+    let d = c.factor_of.result * get_or g.x (g.m.a + (l.j - 1)) 0 % 4 in
     (d < 4)
     × Rising g.m.a g.m.b g.sign (times (moduli g.m.a g.m.b) (factor_of g.sign) g.x) (l.k + c.start-k.result) (kind_after l.kind d) (l.j - 1)
 turn c =
     let l = c.loop-j in
     let g = c.args in
-    rw (c.start-k.ensures.0, c.of.ensures.0, c.of.ensures.1, c.factor.ensures)
+    rw (c.start-k.ensures.0, c.of.ensures.0, c.of.ensures.1, c.factor_of.ensures)
     (rising_step g.m.a g.m.b g.sign g.x c.requires l.k l.kind l.j _ l.invariant c.loop-j-test.true refl)
 
 pub overflow_add-k : goal.overflow_add-k

@@ -7,14 +7,14 @@ use Rattle.layout.proofs.descent.top.Goals as goal
 pub loop-j-init : goal.loop-j-init
 loop-j-init c =
     let g = c.args in
-    rw c.kind-kind.ensures (falling-start g.m.a g.m.b c.requires.0 g.sign g.k c.requires.1)
+    rw c.kind_of-kind.ensures (falling-start g.m.a g.m.b c.requires.0 g.sign g.k c.requires.1)
 
 pub loop-j-preserved : goal.loop-j-preserved
 loop-j-preserved c =
     let l = c.loop-j in
     let g = c.args in
     let f = rw (c.of.ensures.0, c.of.ensures.1) at c.find-d.ensures in
-    rw (c.after-kind.ensures, f.1, c.factor.ensures)
+    rw (c.after-kind.ensures, f.1, c.factor_of.ensures)
     (falling-step g.m.a g.m.b c.requires.0 g.sign g.k l.i l.kind l.j l.r _ _ l.invariant c.loop-j-test.true f.0 refl)
 
 pub returns : goal.returns
