@@ -12,8 +12,8 @@ use Rattle.coding.proofs.weights.Message.lay.Goals.{Start}
 -- how many weights there are of each kind
 room_at : (b : Start)
     → let g = b.args.self.now in
-    SinglesRoom g.m.a g.m.b g.count g.part (fill g.filled.d g.filled.word.now) b.requires.0.message (g.part + g.m.a + 1) (g.count - (g.part + g.m.a + 1))
-room_at b = let g = b.args.self.now in room_for g.m.a g.m.b g.count g.part (fill g.filled.d g.filled.word.now) b.requires.0.message _ _ refl refl
+    SinglesRoom g.m.a g.m.b g.count g.part (fill g.filled.d g.filled.word.now) g.whole (g.part + g.m.a + 1) (g.count - (g.part + g.m.a + 1))
+room_at b = let g = b.args.self.now in room_for g.m.a g.m.b g.count g.part (fill g.filled.d g.filled.word.now) g.whole _ _ refl refl
 
 pub overflow_sub-start : goal.overflow_sub-start
 overflow_sub-start c = let R = room_at (goal.at.overflow_sub-start c).Start in let w = R.whole in let s = R.space in search rules
@@ -25,13 +25,13 @@ singles-requires c =
     let R = room_at (goal.at.singles-requires c).Start in
     let w = R.whole in
     let s = R.fits in
-    let h = c.requires.2 in
+    let h = c.requires in
     let en = h.enough in
     let mo = h.most in
     let start = g.count - (g.part + g.m.a + 1) in
     let d = length-drop start v in
     let l : length (take (g.count - start) (drop start v)) ≡ g.part + g.m.a + 1 = length-take-le (g.count - start) (drop start v) (omega arith) ∙ omega arith in
-    (c.requires.0, λ i a b. c.requires.1 i a b, l, omega arith)
+    (l, omega arith)
 
 pub pairs-requires : goal.pairs-requires
 pairs-requires c =
@@ -41,13 +41,13 @@ pairs-requires c =
     let p = R.pairs in
     let w = R.whole in
     let s = R.fits in
-    let h = c.requires.2 in
+    let h = c.requires in
     let en = h.enough in
     let mo = h.most in
     let start = g.count - (g.part + g.m.a + 1) in
     let n : start ≤ length v = omega arith in
     let l : length (take start (put_mid start (g.count - start) v c.singles.new.v)) ≡ start = ap length (take_put start (g.count - start) v c.singles.new.v n) ∙ length-take-le start v n in
-    (c.requires.0, l ∙ p, omega arith)
+    (l ∙ p, omega arith)
 
 pub returns-then-singles : goal.returns-then-singles
 returns-then-singles c =
@@ -58,7 +58,7 @@ returns-then-singles c =
     let w = R.whole in
     let p = R.pairs in
     let s = R.fits in
-    let en = c.requires.2.enough in
+    let en = c.requires.enough in
     let start = g.count - (g.part + g.m.a + 1) in
     let n : start ≤ length v = omega arith in
     let d = length-drop start v in
