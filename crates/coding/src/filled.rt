@@ -25,7 +25,8 @@ impl Filled<'_> {
         Filled { d, word: self.word }
     }
 
-    // The weight 0 of a unit, and the weights of the pairs from an index on.
+    // The weight 0 of a unit, and the weights of the pairs from an index on. The answer is whether the bytes of these
+    // pairs are 0 or 1.
     pub(crate) fn pair_segment(&self, at: usize, v: &mut [u8]) -> bool
         requires { (2 ≤ length v.old) × (length v.old % 2 ≡ 0) × (at + (length v.old - 2) ≤ self.now.d + length self.now.word.now) × (length v.old ≤ room) × ((self.now.d - at) % 2 ≡ 0) }
         ensures told { Says result (fill self.now.d self.now.word.now) at (at + (length v.old - 2)) }
@@ -60,7 +61,8 @@ impl Filled<'_> {
     }
 }
 
-// The weights of pairs. The last one is read alone, since there is no byte after it.
+// The weights of pairs. The last one is read alone, since there is no byte after it. The answer is whether these bytes
+// are 0 or 1.
 fn row_of_pairs(word: &[u8], v: &mut [u8]) -> bool
     requires { (length word.now ≡ length v.old) × (length v.old % 2 ≡ 0) }
     ensures told { Says result word.now 0 (length word.now) }

@@ -94,14 +94,16 @@ impl Message<'_> {
         if good { Some(sum) } else { None }
     }
 
-    // The moduli where the word is good; else such as no code has, so that the weights of a bad word are not summed.
+    // The moduli where the word is good; else such as no code has, so that the weights of a bad word are not summed. Not
+    // by an `if` around the call: an array handed by value behind a branch is copied.
     fn moduli_if(&self, good: bool) -> Moduli
         ensures { good ≡ true → result ≡ self.now.m }
     {
         if good { self.m } else { Moduli { a: 13, b: 0 } }
     }
 
-    // All weights: those of the pairs, and behind them those of the singles, which stand first in a word.
+    // All weights: those of the pairs, and behind them those of the singles, which stand first in a word. The answer is
+    // whether the bytes of the message are 0 or 1; where one is not, the weights are not laid out to the end.
     #[inline(always)]
     fn lay(&self, v: &mut [u8]) -> bool
         requires { Holds self.now.m.a self.now.m.b (length v.old) }
@@ -115,7 +117,8 @@ impl Message<'_> {
         false
     }
 
-    // The weights of the pairs: for each quaternary component a segment, up to the unit of the next one.
+    // The weights of the pairs: for each quaternary component a segment, up to the unit of the next one. The answer is
+    // whether the bytes of the pairs are 0 or 1.
     #[inline(always)]
     fn pairs(&self, v: &mut [u8]) -> bool
         requires { (length v.old ≡ 2 * plus_to self.now.m.a self.now.m.b self.now.m.b) × (length v.old ≤ room) }
@@ -138,7 +141,8 @@ impl Message<'_> {
     }
 
     // The weights of the singles: zero, for each binary component a segment, and the others, among which there is no
-    // unit. They are tested from the index `seen` on: no byte stands behind its weight.
+    // unit. They are tested from the index `seen` on: no byte stands behind its weight. The answer is whether the bytes
+    // of the singles are 0 or 1.
     #[inline(always)]
     fn singles(&self, v: &mut [u8]) -> bool
         requires { (length v.old ≡ self.now.part + self.now.m.a + 1) × (length v.old ≤ room) }
