@@ -20,13 +20,12 @@ loop-init c =
 -- what the next segment asks, how long the filled word is, and where its pairs begin
 known : (l : In-loop)
     → let g = l.args.self.now in let d = g.filled.d in let w = fill d g.filled.word.now in let v = l.loop in
-    Segment g.m.a g.m.b g.count g.part w g.whole v.p v.e v.at v.counter × (length w ≡ d + length g.filled.word.now) × (d ≤ room) × ((d - v.at) % 2 ≡ 0) × (2 * (4 * v.p + v.e) ≤ length v.v)
+    Segment g.m.a g.m.b g.count g.part w g.whole v.p v.e v.at v.counter × (length w ≡ d + length g.filled.word.now) × ((d - v.at) % 2 ≡ 0) × (2 * (4 * v.p + v.e) ≤ length v.v)
 known l =
     let g = l.args.self.now in
     let i = l.loop.invariant.0 in (
       pairing-asks _ _ _ _ _ g.whole _ _ _ _ _ _ i l.loop-test.true,
       length-fill g.filled.d g.filled.word.now,
-      g.filled.few,
       (let z = i.place in let k = i.rises in let e = g.ends in omega arith),
       in-all _ _ _ _ _ g.whole _ _ _ _ _ _ i l.loop-test.true,
     )
@@ -50,11 +49,11 @@ pub pair_segment-requires : goal.pair_segment-requires
 pair_segment-requires c =
     let k = known (goal.at.pair_segment-requires c).In-loop in
     let v = c.loop in
-    let l = length-segment v.p (4 * v.p + v.e) (3 * v.p + v.e - 1) v.v (omega arith) k.4 in
+    let l = length-segment v.p (4 * v.p + v.e) (3 * v.p + v.e - 1) v.v (omega arith) k.3 in
     let b = k.0.bytes in
     let w = v.invariant.0.wide in
     let m = v.invariant.0.holds.most in
-    (omega arith, omega arith, omega arith, omega arith, k.3)
+    (omega arith, omega arith, omega arith, omega arith, k.2)
 
 pub overflow_add-at : goal.overflow_add-at
 overflow_add-at c =

@@ -2,7 +2,6 @@
 use Rattle.std.proofs.Common.{◌≡◌, ℕ, ◌+◌, ◌-◌, ◌≤◌, length, take, drop, ◌*◌, ◌∙◌, refl, arith, rules, length-take-le, length-drop}
 use Rattle.shortened_theory.specs.Code.{fill}
 use Rattle.shortened_theory.proofs.Filling.{length-fill}
-use Rattle.folds_theory.specs.Folds.{room}
 use Rattle.loops_theory.specs.Passing.{BitsIn}
 use Rattle.loops_theory.proofs.Passing.{length-rest, singles-told}
 use Rattle.loops_theory.proofs.Singles.{SingleAsks, singled-start, singled-asks, singled-end, singled-step, singled-done}
@@ -15,13 +14,12 @@ loop-init c = singled-start _ _ _ _ _ c.args.self.now.whole _ refl _ c.requires.
 -- what the next segment asks, and how long the filled word is
 known : (l : In-loop)
     → let g = l.args.self.now in let d = g.filled.d in let w = fill d g.filled.word.now in let v = l.loop in
-    SingleAsks w (g.part + g.m.a + 1) v.n v.at × (length w ≡ d + length g.filled.word.now) × (d ≤ room) × (length v.v ≡ g.part + g.m.a + 1)
+    SingleAsks w (g.part + g.m.a + 1) v.n v.at × (length w ≡ d + length g.filled.word.now) × (length v.v ≡ g.part + g.m.a + 1)
 known l =
     let g = l.args.self.now in
     let i = l.loop.invariant in (
       singled-asks _ _ _ _ _ g.whole _ refl _ _ _ _ i l.loop-test.true,
       length-fill g.filled.d g.filled.word.now,
-      g.filled.few,
       i.wide,
     )
 
@@ -46,12 +44,12 @@ loop-preserved c = singled-step _ _ _ _ _ c.args.self.now.whole _ refl _ _ _ _ _
 -- what the bytes after the last segment ask
 rest : (l : After-loop)
     → let g = l.args.self.now in let d = g.filled.d in let w = fill d g.filled.word.now in let e = g.part + g.m.a + 1 in let v = l.loop in
-    (v.n ≤ e) × (v.at + (e - v.n) ≤ length w) × (length w ≡ d + length g.filled.word.now) × (d ≤ room) × (length v.v ≡ e)
+    (v.n ≤ e) × (v.at + (e - v.n) ≤ length w) × (length w ≡ d + length g.filled.word.now) × (length v.v ≡ e)
 rest l =
     let g = l.args.self.now in
     let i = l.loop.invariant in
     let s = singled-end _ _ _ _ _ g.whole _ refl _ _ _ _ i l.loop-test.false in
-    (s.0, s.1, length-fill g.filled.d g.filled.word.now, g.filled.few, i.wide)
+    (s.0, s.1, length-fill g.filled.d g.filled.word.now, i.wide)
 
 pub slice_bounds-bytes-count : goal.slice_bounds-bytes-count
 slice_bounds-bytes-count c = let k = rest (goal.at.slice_bounds-bytes-count c).After-loop in search rules
