@@ -31,6 +31,7 @@ struct Message<'a> {
     // how many bytes of the filled word were tested before
     seen: usize,
     ghost whole: { HoldsMessage m.a m.b count part (length (fill filled.d filled.word.now)) },
+    // what is left out beyond the singles are whole pairs
     ghost ends: { (filled.d - part) % 2 ≡ 0 },
     ghost tested: { BitsIn (fill filled.d filled.word.now) 0 seen },
 }
