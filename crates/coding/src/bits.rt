@@ -7,12 +7,14 @@ ghost use Rattle.loops_theory.specs.Passing.{BitsIn, BadIn, Highest, Says};
 // As many bytes as are looked at together where the lowest place is searched.
 const BLOCK: usize = 16;
 
-// The lowest place of a byte above 1, or 0, where the bytes before an index are 0 or 1: block by block, and in a
-// block that has one byte by byte.
+// The lowest place of a byte above 1, where the bytes before an index are 0 or 1: block by block, and in a block that
+// has one byte by byte. Each caller knows that there is one, and needs no Option; 0 for none is what bad_from says.
 pub(crate) fn first_bad(word: &[u8], begin: usize) -> usize
     requires { (begin ≤ length word.now) × BitsIn word.now 0 begin }
     ensures { result ≡ bad_from 1 word.now }
 {
+    // Not `chunks_exact(BLOCK).position(..)`: that all bytes before the block it finds are 0 or 1 takes an induction over
+    // the run of the iterator, where this loop has an invariant of one line.
     let mut start = begin;
     while BLOCK <= word.len() - start && bits(&word[start..start + BLOCK]) {
         start += BLOCK;

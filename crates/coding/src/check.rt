@@ -16,6 +16,7 @@ pub(crate) fn read(m: Moduli, check: &[u8]) -> Option<Element>
 {
     let mut e = [0u8; 12];
     let mut most: u8 = 0;
+    // The index of the next byte: a component has one or two. With the two kinds split apart there would be two loops.
     let mut at: usize = 0;
     for i in 0..m.a + m.b {
         let x = check[at];
@@ -38,6 +39,7 @@ pub(crate) fn write(m: Moduli, e: Element, out: &mut [u8])
     requires { (m.a + m.b ≤ 12) × (m.a + 2 * m.b ≤ length out.old) }
     ensures { out.new ≡ check_digits (moduli m.a m.b) e ++ drop (m.a + 2 * m.b) out.old }
 {
+    // The index of the next byte, as above.
     let mut at: usize = 0;
     for (i, d) in e.iter().enumerate() {
         if i < m.a {

@@ -3,32 +3,34 @@
 ghost use Rattle.std.specs.Prelude.{◌≡◌, ◌+◌, ◌-◌, ◌/◌, ◌%◌, ◌<◌, ◌≤◌, true, false, ◌∷◌, length, drop, ◌==◌};
 ghost use Rattle.layout_theory.specs.Choice.{pick};
 ghost use Rattle.folds_theory.specs.Folds.{room};
+ghost use Rattle.shortened_theory.specs.Code.{fill};
 ghost use Rattle.loops_theory.specs.Spread.{row};
 ghost use Rattle.loops_theory.specs.Passing.{Highest, Says};
-ghost use Rattle.coding.specs.Laid.{filled};
 
 // The word and how many places are left out in front of it.
 #[derive(Clone, Copy)]
 pub(crate) struct Filled<'a> {
     pub(crate) d: usize,
     pub(crate) word: &'a [u8],
+    ghost few: { d ≤ room },
 }
 
 impl Filled<'_> {
     // The same, with a constant where no place is left out, so that nothing of the cutting is compiled.
     pub(crate) fn cut<const CUT: bool>(self) -> Self
         requires { CUT ≡ false → self.d ≡ 0 }
-        ensures { result ≡ self.entry }
+        ensures { (result.d ≡ self.entry.d) × (result.word.now ≡ self.entry.word.now) }
     {
         let d = if CUT { self.d } else { 0 };
         Filled { d, word: self.word }
     }
 
-    // The weight 0 of a unit, and the weights of the pairs from an index on.
+    // The weight 0 of a unit, and the weights of the pairs from an index on. The answer is whether the bytes of these
+    // pairs are 0 or 1.
     pub(crate) fn pair_segment(&self, at: usize, v: &mut [u8]) -> bool
-        requires { (2 ≤ length v.old) × (length v.old % 2 ≡ 0) × (at + (length v.old - 2) ≤ self.now.d + length self.now.word.now) × (length v.old ≤ room) × (self.now.d ≤ room) × ((self.now.d - at) % 2 ≡ 0) }
-        ensures told { Says result (filled self.now) at (at + (length v.old - 2)) }
-        ensures laid { v.new ≡ 0 ∷ 0 ∷ row true (length v.old / 2 - 1) (drop at (filled self.now)) }
+        requires { (2 ≤ length v.old) × (length v.old % 2 ≡ 0) × (at + (length v.old - 2) ≤ self.now.d + length self.now.word.now) × (length v.old ≤ room) × ((self.now.d - at) % 2 ≡ 0) }
+        ensures told { Says result (fill self.now.d self.now.word.now) at (at + (length v.old - 2)) }
+        ensures laid { v.new ≡ 0 ∷ 0 ∷ row true (length v.old / 2 - 1) (drop at (fill self.now.d self.now.word.now)) }
     {
         let left = self.d.saturating_sub(at).min(v.len() - 2);
         v[..2 + left].fill(0);
@@ -39,8 +41,8 @@ impl Filled<'_> {
 
     // The weight 0 of a unit, and the bytes from an index on.
     pub(crate) fn single_segment(&self, at: usize, v: &mut [u8])
-        requires { (1 ≤ length v.old) × (at + (length v.old - 1) ≤ self.now.d + length self.now.word.now) × (length v.old ≤ room) × (self.now.d ≤ room) }
-        ensures { v.new ≡ 0 ∷ row false (length v.old - 1) (drop at (filled self.now)) }
+        requires { (1 ≤ length v.old) × (at + (length v.old - 1) ≤ self.now.d + length self.now.word.now) × (length v.old ≤ room) }
+        ensures { v.new ≡ 0 ∷ row false (length v.old - 1) (drop at (fill self.now.d self.now.word.now)) }
     {
         v[0] = 0;
         self.bytes(at, &mut v[1..]);
@@ -48,8 +50,8 @@ impl Filled<'_> {
 
     // The bytes from an index on as they stand, 0 for those that are left out.
     pub(crate) fn bytes(&self, at: usize, v: &mut [u8])
-        requires { (at + length v.old ≤ self.now.d + length self.now.word.now) × (length v.old ≤ room) × (self.now.d ≤ room) }
-        ensures { v.new ≡ row false (length v.old) (drop at (filled self.now)) }
+        requires { (at + length v.old ≤ self.now.d + length self.now.word.now) × (length v.old ≤ room) }
+        ensures { v.new ≡ row false (length v.old) (drop at (fill self.now.d self.now.word.now)) }
     {
         let left = self.d.saturating_sub(at).min(v.len());
         v[..left].fill(0);
@@ -59,7 +61,8 @@ impl Filled<'_> {
     }
 }
 
-// The weights of pairs. The last one is read alone, since there is no byte after it.
+// The weights of pairs. The last one is read alone, since there is no byte after it. The answer is whether these bytes
+// are 0 or 1.
 fn row_of_pairs(word: &[u8], v: &mut [u8]) -> bool
     requires { (length word.now ≡ length v.old) × (length v.old % 2 ≡ 0) }
     ensures told { Says result word.now 0 (length word.now) }

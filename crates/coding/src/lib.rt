@@ -110,7 +110,7 @@ pub fn flip_in_place(place: u32, word: &mut [u8])
     }
     let i = (place - 1) as usize;
     if i < word.len() {
-        word[i] = 1u8.saturating_sub(word[i]);
+        word[i] = u8::from(word[i] == 0);
     }
 }
 

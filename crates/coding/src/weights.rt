@@ -4,14 +4,14 @@
 // head of each segment. The first d places are left out of the word, and have the weight 0 too; what is read
 // is said of the word filled with d zeros. On the way the bytes are tested: those of singles, which are copied
 // as they stand, among the weights, those of pairs as they are read. The pass ends where one is above 1.
-ghost use Rattle.std.specs.Prelude.{◌≡◌, ◌+◌, ◌-◌, ◌*◌, ◌≤◌, true, false, ◌++◌, length, take, drop};
+ghost use Rattle.std.specs.Prelude.{◌≡◌, ◌+◌, ◌-◌, ◌*◌, ◌%◌, ◌≤◌, true, false, ◌++◌, length, take, drop};
 ghost use Rattle.group_theory.specs.Group.{moduli};
 ghost use Rattle.blocks_theory.specs.Blocks.{plus, even, level, plus_to};
 ghost use Rattle.folds_theory.specs.Folds.{room, Holds};
 ghost use Rattle.shortened_theory.specs.Code.{fill};
-ghost use Rattle.loops_theory.specs.Spread.{spread, message_in, HoldsFilled};
+ghost use Rattle.loops_theory.specs.Spread.{spread, message_in, HoldsMessage, HoldsFilled};
 ghost use Rattle.loops_theory.specs.Passing.{BitsIn, Tells};
-ghost use Rattle.coding.specs.Laid.{filled, IsMessage, Sums};
+ghost use Rattle.coding.specs.Laid.{Sums};
 
 use crate::bits;
 use crate::filled::Filled;
@@ -28,6 +28,12 @@ struct Message<'a> {
     // how many places stand singly in the message, and not in pairs
     part: usize,
     filled: Filled<'a>,
+    // how many bytes of the filled word were tested before
+    seen: usize,
+    ghost whole: { HoldsMessage m.a m.b count part (length (fill filled.d filled.word.now)) },
+    // what is left out beyond the singles are whole pairs
+    ghost ends: { (filled.d - part) % 2 ≡ 0 },
+    ghost tested: { BitsIn (fill filled.d filled.word.now) 0 seen },
 }
 
 // The sum of the places of the message at the front of a word whose first d places are left out: each single's byte
@@ -42,11 +48,12 @@ pub(crate) fn message_sum(h: Shape, d: usize, word: &[u8], seen: usize) -> Optio
         count: h.places as usize + 1,
         part: h.binary as usize - h.a,
         filled: Filled { d, word },
+        seen,
     };
     if d == 0 {
-        x.sum::<false>(seen)
+        x.sum::<false>()
     } else {
-        x.sum::<true>(seen)
+        x.sum::<true>()
     }
 }
 
@@ -54,71 +61,75 @@ impl Message<'_> {
     // The sum by an array of weights that has room for codes up to t = 6, 10 and 12. It and what it calls here are
     // always inlined: so the two calls above stay two when compiled, one of them without cutting.
     #[inline(always)]
-    fn sum<const CUT: bool>(&self, seen: usize) -> Option<Element>
-        requires { IsMessage self.now × BitsIn (filled self.now.filled) 0 seen × (CUT ≡ false → self.now.filled.d ≡ 0) }
-        ensures { Sums self.now.m.a self.now.m.b (filled self.now.filled) result }
+    fn sum<const CUT: bool>(&self) -> Option<Element>
+        requires { CUT ≡ false → self.now.filled.d ≡ 0 }
+        ensures { Sums self.now.m.a self.now.m.b (fill self.now.filled.d self.now.filled.word.now) result }
     {
         let t = self.m.a + 2 * self.m.b;
         if t <= 6 {
-            return self.summed::<ROOM6, CUT>(seen);
+            return self.summed::<ROOM6, CUT>();
         }
         if t <= 10 {
-            return self.summed::<ROOM10, CUT>(seen);
+            return self.summed::<ROOM10, CUT>();
         }
-        self.summed::<ROOM12, CUT>(seen)
+        self.summed::<ROOM12, CUT>()
     }
 
     // The same by an array of N weights. Where no place is left out, nothing of the cutting is left in this function
     // when it is compiled.
     #[inline(always)]
-    fn summed<const N: usize, const CUT: bool>(&self, seen: usize) -> Option<Element>
-        requires { IsMessage self.now × BitsIn (filled self.now.filled) 0 seen × (CUT ≡ false → self.now.filled.d ≡ 0) × Holds self.now.m.a self.now.m.b N }
-        ensures { Sums self.now.m.a self.now.m.b (filled self.now.filled) result }
+    fn summed<const N: usize, const CUT: bool>(&self) -> Option<Element>
+        requires { (CUT ≡ false → self.now.filled.d ≡ 0) × Holds self.now.m.a self.now.m.b N }
+        ensures { Sums self.now.m.a self.now.m.b (fill self.now.filled.d self.now.filled.word.now) result }
     {
         let x = Message {
             m: self.m,
             count: self.count,
             part: self.part,
             filled: self.filled.cut::<CUT>(),
+            seen: self.seen,
         };
         let mut v = [0u8; N];
-        let good = x.lay(seen, &mut v);
+        let good = x.lay(&mut v);
         let sum = folds::weighted(self.moduli_if(good), v);
         if good { Some(sum) } else { None }
     }
 
-    // The moduli where the word is good; else such as no code has, so that the weights of a bad word are not summed.
+    // The moduli where the word is good; else such as no code has, so that the weights of a bad word are not summed. Not
+    // by an `if` around the call: an array handed by value behind a branch is copied.
     fn moduli_if(&self, good: bool) -> Moduli
         ensures { good ≡ true → result ≡ self.now.m }
     {
         if good { self.m } else { Moduli { a: 13, b: 0 } }
     }
 
-    // All weights: those of the pairs, and behind them those of the singles, which stand first in a word.
+    // All weights: those of the pairs, and behind them those of the singles, which stand first in a word. The answer is
+    // whether the bytes of the message are 0 or 1; where one is not, the weights are not laid out to the end.
     #[inline(always)]
-    fn lay(&self, seen: usize, v: &mut [u8]) -> bool
-        requires { IsMessage self.now × BitsIn (filled self.now.filled) 0 seen × Holds self.now.m.a self.now.m.b (length v.old) }
-        ensures told { Tells result (filled self.now.filled) 0 (message_in self.now.m.a self.now.m.b) }
-        ensures laid { result ≡ true → take self.now.count v.new ≡ spread true (moduli self.now.m.a self.now.m.b) (plus (level self.now.m.a self.now.m.b self.now.m.b)) (drop self.now.part (filled self.now.filled)) ++ spread false (moduli self.now.m.a self.now.m.b) (even (level self.now.m.a self.now.m.b self.now.m.b)) (filled self.now.filled) }
+    fn lay(&self, v: &mut [u8]) -> bool
+        requires { Holds self.now.m.a self.now.m.b (length v.old) }
+        ensures told { Tells result (fill self.now.filled.d self.now.filled.word.now) 0 (message_in self.now.m.a self.now.m.b) }
+        ensures laid { result ≡ true → take self.now.count v.new ≡ spread true (moduli self.now.m.a self.now.m.b) (plus (level self.now.m.a self.now.m.b self.now.m.b)) (drop self.now.part (fill self.now.filled.d self.now.filled.word.now)) ++ spread false (moduli self.now.m.a self.now.m.b) (even (level self.now.m.a self.now.m.b self.now.m.b)) (fill self.now.filled.d self.now.filled.word.now) }
     {
         let start = self.count - (self.part + self.m.a + 1);
-        if self.singles(seen, &mut v[start..self.count]) {
+        if self.singles(&mut v[start..self.count]) {
             return self.pairs(&mut v[..start]);
         }
         false
     }
 
-    // The weights of the pairs: for each quaternary component a segment, up to the unit of the next one.
+    // The weights of the pairs: for each quaternary component a segment, up to the unit of the next one. The answer is
+    // whether the bytes of the pairs are 0 or 1.
     #[inline(always)]
     fn pairs(&self, v: &mut [u8]) -> bool
-        requires { IsMessage self.now × (length v.old ≡ 2 * plus_to self.now.m.a self.now.m.b self.now.m.b) × (length v.old ≤ room) }
-        ensures told { Tells result (filled self.now.filled) self.now.part (message_in self.now.m.a self.now.m.b) }
-        ensures laid { result ≡ true → v.new ≡ spread true (moduli self.now.m.a self.now.m.b) (plus (level self.now.m.a self.now.m.b self.now.m.b)) (drop self.now.part (filled self.now.filled)) }
+        requires { (length v.old ≡ 2 * plus_to self.now.m.a self.now.m.b self.now.m.b) × (length v.old ≤ room) }
+        ensures told { Tells result (fill self.now.filled.d self.now.filled.word.now) self.now.part (message_in self.now.m.a self.now.m.b) }
+        ensures laid { result ≡ true → v.new ≡ spread true (moduli self.now.m.a self.now.m.b) (plus (level self.now.m.a self.now.m.b self.now.m.b)) (drop self.now.part (fill self.now.filled.d self.now.filled.word.now)) }
     {
         let mut p: usize = 0;
         let mut e = 1usize << self.m.a;
         let mut at = self.part;
-        for _j in 0..self.m.b {
+        for _ in 0..self.m.b {
             let q = 4 * p + e;
             if !self.filled.pair_segment(at, &mut v[2 * p..2 * q]) {
                 return false;
@@ -131,22 +142,23 @@ impl Message<'_> {
     }
 
     // The weights of the singles: zero, for each binary component a segment, and the others, among which there is no
-    // unit. They are tested from the index `seen` on: no byte stands behind its weight.
+    // unit. They are tested from the index `seen` on: no byte stands behind its weight. The answer is whether the bytes
+    // of the singles are 0 or 1.
     #[inline(always)]
-    fn singles(&self, seen: usize, v: &mut [u8]) -> bool
-        requires { IsMessage self.now × BitsIn (filled self.now.filled) 0 seen × (length v.old ≡ self.now.part + self.now.m.a + 1) × (length v.old ≤ room) }
-        ensures told { Tells result (filled self.now.filled) 0 self.now.part }
-        ensures laid { v.new ≡ spread false (moduli self.now.m.a self.now.m.b) (even (level self.now.m.a self.now.m.b self.now.m.b)) (filled self.now.filled) }
+    fn singles(&self, v: &mut [u8]) -> bool
+        requires { (length v.old ≡ self.now.part + self.now.m.a + 1) × (length v.old ≤ room) }
+        ensures told { Tells result (fill self.now.filled.d self.now.filled.word.now) 0 self.now.part }
+        ensures laid { v.new ≡ spread false (moduli self.now.m.a self.now.m.b) (even (level self.now.m.a self.now.m.b self.now.m.b)) (fill self.now.filled.d self.now.filled.word.now) }
     {
         v[0] = 0;
         let mut n: usize = 1;
         let mut at: usize = 0;
-        for _i in 0..self.m.a {
+        for _ in 0..self.m.a {
             self.filled.single_segment(at, &mut v[n..2 * n]);
             at += n - 1;
             n *= 2;
         }
         self.filled.bytes(at, &mut v[n..]);
-        bits::bits(&v[seen.min(v.len())..])
+        bits::bits(&v[self.seen.min(v.len())..])
     }
 }

@@ -20,7 +20,7 @@ returns c =
     let u = c.fill.new.self ++ drop (2 + left) g.v.now in
     let k = ap (λ (i : ℕ). i - (2 + left)) (length-put (2 + left) g.v.now _ n m) in
     record {
-      told = pairs-said s.d g.at s.word.now g.v.now c.fill.new.self c.row_of_pairs.new.v left first _ c.saturating_sub-first.ensures h.5 h.1 h.0 (search rules) k h.2 _ c.row_of_pairs.ensures.told;
+      told = pairs-said s.d g.at s.word.now g.v.now c.fill.new.self c.row_of_pairs.new.v left first _ c.saturating_sub-first.ensures h.4 h.1 h.0 (search rules) k h.2 _ c.row_of_pairs.ensures.told;
       laid = put_rest (2 + left) g.v.now _ _ n
-          ∙ pairs-kept s.d g.at s.word.now g.v.now _ _ left first _ c.saturating_sub-first.ensures h.5 h.1 h.0 (search rules) k z (c.row_of_pairs.ensures.laid ∙ ap (λ (i : ℕ). row true (i / 2) (take (first + (length u - (2 + left)) - first) (drop first s.word.now))) (length-rest u (2 + left)));
+          ∙ pairs-kept s.d g.at s.word.now g.v.now _ _ left first _ c.saturating_sub-first.ensures h.4 h.1 h.0 (search rules) k z (c.row_of_pairs.ensures.laid ∙ ap (λ (i : ℕ). row true (i / 2) (take (first + (length u - (2 + left)) - first) (drop first s.word.now))) (length-rest u (2 + left)));
     }

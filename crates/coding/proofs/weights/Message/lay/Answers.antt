@@ -1,5 +1,6 @@
 -- `coding::weights::Message::lay` meets its contract. Assumes nothing.
 use Rattle.std.proofs.Common.{◌≡◌, ℕ, ◌+◌, ◌-◌, ◌≤◌, length, ◌++◌, take, drop, sym, refl, ◌∙◌, ap, ap₂, arith, rules, length-take-le, length-drop}
+use Rattle.folds_theory.specs.Folds.{room}
 use Rattle.shortened_theory.specs.Code.{fill}
 use borrow.Rule.Slice.PartMut.{put_mid, take_put}
 use Rattle.loops_theory.specs.Spread.{message_in}
@@ -12,8 +13,15 @@ use Rattle.coding.proofs.weights.Message.lay.Goals.{Start}
 -- how many weights there are of each kind
 room_at : (b : Start)
     → let g = b.args.self.now in
-    SinglesRoom g.m.a g.m.b g.count g.part (fill g.filled.d g.filled.word.now) b.requires.0.message (g.part + g.m.a + 1) (g.count - (g.part + g.m.a + 1))
-room_at b = let g = b.args.self.now in room_for g.m.a g.m.b g.count g.part (fill g.filled.d g.filled.word.now) b.requires.0.message _ _ refl refl
+    SinglesRoom g.m.a g.m.b g.count g.part (fill g.filled.d g.filled.word.now) g.whole (g.part + g.m.a + 1) (g.count - (g.part + g.m.a + 1))
+room_at b = let g = b.args.self.now in room_for g.m.a g.m.b g.count g.part (fill g.filled.d g.filled.word.now) g.whole _ _ refl refl
+
+-- the weights of the singles stand behind those of the pairs, and there is room for both
+placed : (b : Start)
+    → let g = b.args.self.now in
+    let e = g.part + g.m.a + 1 in
+    (g.count - e + e ≡ g.count) × (g.count ≤ length b.args.v.now) × (length b.args.v.now ≤ room)
+placed b = let R = room_at b in let s = R.fits in let en = b.requires.enough in (R.whole, omega arith, b.requires.most)
 
 pub overflow_sub-start : goal.overflow_sub-start
 overflow_sub-start c = let R = room_at (goal.at.overflow_sub-start c).Start in let w = R.whole in let s = R.space in search rules
@@ -22,43 +30,30 @@ pub singles-requires : goal.singles-requires
 singles-requires c =
     let g = c.args.self.now in
     let v = c.args.v.now in
-    let R = room_at (goal.at.singles-requires c).Start in
-    let w = R.whole in
-    let s = R.fits in
-    let h = c.requires.2 in
-    let en = h.enough in
-    let mo = h.most in
+    let k = placed (goal.at.singles-requires c).Start in
     let start = g.count - (g.part + g.m.a + 1) in
     let d = length-drop start v in
     let l : length (take (g.count - start) (drop start v)) ≡ g.part + g.m.a + 1 = length-take-le (g.count - start) (drop start v) (omega arith) ∙ omega arith in
-    (c.requires.0, λ i a b. c.requires.1 i a b, l, omega arith)
+    (l, omega arith)
 
 pub pairs-requires : goal.pairs-requires
 pairs-requires c =
     let g = c.args.self.now in
     let v = c.args.v.now in
-    let R = room_at (goal.at.pairs-requires c).Start in
-    let p = R.pairs in
-    let w = R.whole in
-    let s = R.fits in
-    let h = c.requires.2 in
-    let en = h.enough in
-    let mo = h.most in
+    let b = (goal.at.pairs-requires c).Start in
+    let p = (room_at b).pairs in
+    let k = placed b in
     let start = g.count - (g.part + g.m.a + 1) in
     let n : start ≤ length v = omega arith in
     let l : length (take start (put_mid start (g.count - start) v c.singles.new.v)) ≡ start = ap length (take_put start (g.count - start) v c.singles.new.v n) ∙ length-take-le start v n in
-    (c.requires.0, l ∙ p, omega arith)
+    (l ∙ p, omega arith)
 
 pub returns-then-singles : goal.returns-then-singles
 returns-then-singles c =
     let g = c.args.self.now in
     let v = c.args.v.now in
     let W = fill g.filled.d g.filled.word.now in
-    let R = room_at (goal.at.returns-then-singles c).Start in
-    let w = R.whole in
-    let p = R.pairs in
-    let s = R.fits in
-    let en = c.requires.2.enough in
+    let k = placed (goal.at.returns-then-singles c).Start in
     let start = g.count - (g.part + g.m.a + 1) in
     let n : start ≤ length v = omega arith in
     let d = length-drop start v in

@@ -4,7 +4,7 @@ use Rattle.shortened_theory.specs.Code.{fill}
 use Rattle.loops_theory.proofs.Singles.{Singled}
 use Rattle.coding.proofs.weights.Message.singles.Given as goal
 
-abbrev pub invariant-loop-i : goal.invariant-loop-i
-invariant-loop-i l =
+abbrev pub invariant-loop : goal.invariant-loop
+invariant-loop l =
     let s = l.self in
-    Singled s.m.a s.m.b (s.part + s.m.a + 1) (fill s.filled.d s.filled.word.now) l.v l.n l.at l._i
+    Singled s.m.a s.m.b (s.part + s.m.a + 1) (fill s.filled.d s.filled.word.now) l.v l.n l.at l.counter
