@@ -1,7 +1,9 @@
 -- What a call answers that a check refuses, and what it answers that none does: the numbers are document 01's, 10 and 11 request C-17's and 24
 -- request C-20's. Assumes nothing.
 use Rattle.std.specs.Prelude.{ℕ, Result, Ok, Err}
+use Rattle.coder_theory.specs.declared.Record.{Record}
 use Rattle.coder_theory.specs.declared.Answer.{Answer}
+use Rattle.coder_theory.specs.declared.Corrected.{Corrected}
 use Rattle.checks.specs.declared.refusal.Refusal.{Refusal}
 use Rattle.checks.specs.declared.refusal.Refusal.TheVariants.{NotAdmitted, WrongLength, ShortOutput, BadByte, Outside, EqualPlaces, NotAllowed, LeftOut, Closed, Unfit, Full, NotAsked}
 
@@ -38,3 +40,8 @@ told (Err x) = refused x
 abbrev pub told_place : Result ℕ Refusal → Answer
 told_place (Ok p) = record { refusal = 0; place = p }
 told_place (Err x) = refused x
+
+-- a correction or a commit is counted by its place; refused it gives "the record as handed in"
+abbrev pub told_counted : (Record → ℕ → Record) → Record → Result ℕ Refusal → Corrected
+told_counted count rec (Ok p) = record { refusal = 0; place = p; «record» = count rec p }
+told_counted count rec (Err x) = record { refusal = number_of x; place = place_of x; «record» = rec }

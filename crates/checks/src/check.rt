@@ -35,7 +35,7 @@ pub fn places(record: Record, i: u32, j: u32) -> Result<(), Refusal>
 }
 
 // 21, 22, 10, 2 and 3: n bytes are asked of the word, and the output has `room` bytes of which `need` are
-// needed.
+// needed. No call here uses it: it is for other lengths, of a call whose output is longer than a word.
 pub fn sizes(record: Record, n: u32, word: &[u8], need: u32, room: usize) -> Result<(), Refusal>
     ensures { told result ≡ answer_of (first_reason (state_reasons «record» ++ (wrong_length n word.now ∷ short_output need room ∷ []))) }
 {
@@ -143,10 +143,7 @@ fn all_bits(word: &[u8]) -> Result<(), Refusal>
     requires { length word.now < 4294967296 }
     ensures { told result ≡ answer_of (first_reason (bad_byte word.now ∷ [])) }
 {
-    match coding::all_bits(word) {
-        Ok(()) => Ok(()),
-        Err(place) => Err(Refusal::BadByte(place as u32)),
-    }
+    coding::all_bits(word).map_err(|place| Refusal::BadByte(place as u32))
 }
 
 // 5: p is none of n places.

@@ -3,7 +3,8 @@
 // theorems on these answers, demand 3 among them, are there too. What is wrong with a call is found by
 // crate checks, which counts too; the work on plain words of the shortened code is done by crates coding (the pass
 // over a received word, encoding, a correction's flip), combining, places and shortened. Each call is done by a
-// function of its own, whose Result is made the call's answer: a refusal its number and place.
+// function of its own, whose Result is made the call's answer: a refusal its number and place. The answers are structs with that
+// number, and no Result, since the theorems of coder_theory speak of these structs, and C and the README have the numbers.
 #![tactic(auto)]
 
 mod answers;
@@ -14,7 +15,7 @@ ghost use Rattle.coder_theory.specs.Calls.{opened, element_answer, word_length, 
 ghost use Rattle.coder_theory.specs.Calls.{encode_answer, encode_output, correct_answer, correct_output, combine_answer, combine_output, invert_answer, invert_output, third_answer};
 ghost use Rattle.coder_theory.specs.Calls.{ask_answer, commit_answer, commit_output};
 
-use checks::fit;
+use checks::{count, fit};
 pub use coder_theory::{Answer, Corrected, ElementAnswer, Opened, Record, TestAnswer};
 use parameters::Code;
 
@@ -110,7 +111,7 @@ pub fn correct(record: Record, word: &[u8], out: &mut [u8]) -> Corrected
     ensures bytes { out.new ≡ correct_output «record» word.now out.old }
 {
     let changed = work::corrected(record, word, out);
-    answers::change(record, changed)
+    count::change(record, changed)
 }
 
 // The place that correction would change, 0 for a codeword; nothing is counted. Refused with 21, 22, 10, 2, 4
@@ -128,7 +129,7 @@ pub fn commit(record: Record, place: u32, word: &mut [u8]) -> Corrected
     ensures bytes { word.new ≡ commit_output «record» place word.old }
 {
     let changed = work::committed(record, place, word);
-    answers::change(record, changed)
+    count::change(record, changed)
 }
 
 // Two words combined by the group law, at the front of `out`. Refused with 21, 22, 10, 2, 3 and 4.

@@ -4,12 +4,12 @@ ghost use Rattle.layout_theory.specs.Choice.{pick};
 ghost use Rattle.layout_theory.specs.Calls.{shape_for};
 ghost use Rattle.shortened_theory.specs.Code.{new_place, is_left_out};
 ghost use Rattle.shortened_theory.specs.Calls.{shortened_syndrome_for, shortened_fault_for};
-ghost use Rattle.coder_theory.specs.State.{fresh, places_in};
+ghost use Rattle.coder_theory.specs.State.{fresh, places_in, counted};
 ghost use Rattle.coder_theory.specs.Reasons.{first_reason, not_admitted, not_allowed};
 ghost use Rattle.coder_theory.specs.Calls.{answer_of, write_reasons, in_force, element_answer, syndrome_answer, encode_answer, encode_output, correct_answer, correct_output};
 ghost use Rattle.coder_theory.specs.Calls.{ask_answer, commit_answer, commit_output, combine_answer, combine_output, invert_answer, invert_output, third_answer};
-ghost use Rattle.checks.specs.Told.{told};
-ghost use Rattle.coder.specs.Told.{told_place, told_element, told_counted};
+ghost use Rattle.checks.specs.Told.{told, told_place, told_counted};
+ghost use Rattle.coder.specs.Told.{told_element};
 
 use checks::refusal::Refusal;
 use checks::{check, fit};
@@ -92,8 +92,8 @@ pub(crate) fn received(record: Record, word: &[u8], room: usize) -> Result<Eleme
 pub(crate) fn syndrome_of(record: Record, word: &[u8]) -> Result<u32, Refusal>
     ensures { told_element result ≡ syndrome_answer «record» word.now }
 {
-    let e = received(record, word, word.len())?;
-    Ok(moduli(record).number_of(e))
+    let syndrome = received(record, word, word.len())?;
+    Ok(moduli(record).number_of(syndrome))
 }
 
 // Encodes a message into the front of an output.
@@ -119,7 +119,7 @@ fn at_fault(record: Record, word: &[u8], room: usize) -> Result<u32, Refusal>
 // Corrects a word into the front of an output: the place that was flipped, or 0.
 #[tactic(auto, unfolding(coder_theory::specs::Reasons::first_reason, coder_theory::specs::Calls::correct_answer, coder_theory::specs::Calls::correct_output))]
 pub(crate) fn corrected(record: Record, word: &[u8], out: &mut [u8]) -> Result<u32, Refusal>
-    ensures answer { told_counted «record» result ≡ correct_answer «record» word.now out.old }
+    ensures answer { told_counted counted «record» result ≡ correct_answer «record» word.now out.old }
     ensures bytes { out.new ≡ correct_output «record» word.now out.old }
 {
     let q = at_fault(record, word, out.len())?;
@@ -135,13 +135,13 @@ pub(crate) fn asked(record: Record, word: &[u8]) -> Result<u32, Refusal>
     ensures { told_place result ≡ ask_answer «record» word.now }
 {
     let q = at_fault(record, word, word.len())?;
-    told(record, q)
+    renumbered(record, q)
 }
 
 // Flips a claimed place where the word stands.
 #[tactic(auto, unfolding(coder_theory::specs::Reasons::first_reason, coder_theory::specs::Calls::commit_answer, coder_theory::specs::Calls::commit_output))]
 pub(crate) fn committed(record: Record, place: u32, word: &mut [u8]) -> Result<u32, Refusal>
-    ensures answer { told_counted «record» result ≡ commit_answer «record» place word.old }
+    ensures answer { told_counted counted «record» result ≡ commit_answer «record» place word.old }
     ensures bytes { word.new ≡ commit_output «record» place word.old }
 {
     let p = asked(record, word)?;
@@ -183,11 +183,11 @@ pub(crate) fn third(record: Record, i: u32, j: u32) -> Result<u32, Refusal>
     ensures { told_place result ≡ third_answer «record» i j }
 {
     check::places(record, i, j)?;
-    told(record, shortened::third(fit::code(record), i, j))
+    renumbered(record, shortened::third(fit::code(record), i, j))
 }
 
 // A place that a call came to, renumbered: 11 where it is left out.
-fn told(record: Record, q: u32) -> Result<u32, Refusal>
+fn renumbered(record: Record, q: u32) -> Result<u32, Refusal>
     ensures { told_place result ≡ pick (is_left_out «record».s q) (record { refusal = 11; place = 0 }) (record { refusal = 0; place = new_place «record».s q }) }
 {
     if shortened::is_left_out(record.s, q) {

@@ -15,8 +15,9 @@ mod weights;
 mod whole;
 
 ghost use Rattle.std.specs.Prelude.{◌≡◌};
+ghost use Rattle.coder_theory.specs.State.{counted};
 ghost use Rattle.coder_theory.specs.Calls.{correct_answer, correct_output};
-ghost use Rattle.two_passes.specs.Calls.{counted_answer};
+ghost use Rattle.checks.specs.Told.{told_counted};
 
 use checks::refusal::Refusal;
 use checks::{check, count, fit};
@@ -28,23 +29,13 @@ pub fn correct(record: Record, word: &[u8], out: &mut [u8]) -> Corrected
     ensures answer { result ≡ correct_answer «record» word.now out.old }
     ensures bytes { out.new ≡ correct_output «record» word.now out.old }
 {
-    match corrected(record, word, out) {
-        Ok(place) => Corrected {
-            refusal: 0,
-            place,
-            record: count::counted(record, place),
-        },
-        Err(x) => Corrected {
-            refusal: x.number(),
-            place: x.place(),
-            record,
-        },
-    }
+    let changed = corrected(record, word, out);
+    count::change(record, changed)
 }
 
 // Writes the codeword, and answers the place that was flipped.
 fn corrected(record: Record, word: &[u8], out: &mut [u8]) -> Result<u32, Refusal>
-    ensures answer { counted_answer «record» result ≡ correct_answer «record» word.now out.old }
+    ensures answer { told_counted counted «record» result ≡ correct_answer «record» word.now out.old }
     ensures bytes { out.new ≡ correct_output «record» word.now out.old }
 {
     bytes::written(record, word, out.len())?;

@@ -13,7 +13,7 @@ pub fn z2z4_encode(t: u32, r: u32, message: &[u8], out: &mut [u8]) -> i32
     ensures bytes { out.new ≡ encode_output_for_c t r message.now out.old }
 {
     match opened(t, r) {
-        Ok(code) => answer(coder::encode(code, message, out).refusal, 0),
+        Ok(record) => answer(coder::encode(record, message, out).refusal, 0),
         Err(refused) => refused,
     }
 }
@@ -25,8 +25,8 @@ pub fn z2z4_correct(t: u32, r: u32, word: &[u8], out: &mut [u8]) -> i32
     ensures bytes { out.new ≡ correct_output_for_c t r word.now out.old }
 {
     match opened(t, r) {
-        Ok(code) => {
-            let c = coder::correct(code, word, out);
+        Ok(record) => {
+            let c = coder::correct(record, word, out);
             answer(c.refusal, c.place)
         }
         Err(refused) => refused,
@@ -39,7 +39,7 @@ pub fn z2z4_combine(t: u32, r: u32, first: &[u8], second: &[u8], out: &mut [u8])
     ensures bytes { out.new ≡ combine_output_for_c t r first.now second.now out.old }
 {
     match opened(t, r) {
-        Ok(code) => answer(coder::combine(code, first, second, out).refusal, 0),
+        Ok(record) => answer(coder::combine(record, first, second, out).refusal, 0),
         Err(refused) => refused,
     }
 }
@@ -49,8 +49,8 @@ pub fn z2z4_third_place(t: u32, r: u32, i: u32, j: u32) -> i32
     ensures { result ≡ third_answer_for_c t r i j }
 {
     match opened(t, r) {
-        Ok(code) => {
-            let p = coder::third_place(code, i, j);
+        Ok(record) => {
+            let p = coder::third_place(record, i, j);
             answer(p.refusal, p.place)
         }
         Err(refused) => refused,

@@ -1,7 +1,10 @@
 -- `coder::correct` meets its contract: what is counted was accepted. Assumes nothing.
+use mathlib.Core.Path.{◌∙◌}
 use Rattle.coder_theory.proofs.Corrections.{correct-counts}
-use Rattle.coder.proofs.Accepts.{if-accepted}
+use Rattle.checks.proofs.Accepts.{if-accepted}
 use Rattle.coder.proofs.correct.Goals as goal
 
-pub change-requires : goal.change-requires
-change-requires c = if-accepted _ _ _ c.corrected-changed.ensures.answer (correct-counts _ _ _)
+pub returns-clause-answer : goal.returns-clause-answer
+returns-clause-answer c =
+    let a = c.corrected-changed.ensures.answer in
+    c.change.ensures.usable (if-accepted c.args.«record» _ _ a (correct-counts _ _ _)) ∙ a

@@ -11,8 +11,8 @@ place_is : (p q : ℕ) → if_bits {A = Unit {0}} p (tt {0}) ≡ Err q → q ≡
 place_is zero q e = absurd (cc)
 place_is (suc p) q e = cc
 
-pub overflow_cast-result : goal.overflow_cast-result
-overflow_cast-result c =
-    let p = place_is _ _ (sym c.all_bits.ensures ∙ c.in-Err.is) in
+pub map_err-requires : goal.map_err-requires
+map_err-requires c e is _ _ =
+    let p = place_is _ _ (sym c.all_bits.ensures ∙ is) in
     let h = bad-most 0 c.args.word.now in
     omega (arith, c.requires)

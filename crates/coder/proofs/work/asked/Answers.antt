@@ -7,4 +7,4 @@ use Rattle.coder.proofs.work.asked.Goals as goal
 
 pub returns : goal.returns
 returns c =
-    ask-told _ _ _ (c.in_ok-q.ensures.answer ∙ ap answer_of (word_room c.args.«record» c.args.word.now)) refl _ c.in_ok-q.ensures.place _ c.told.ensures
+    ask-told _ _ _ (c.in_ok-q.ensures.answer ∙ ap answer_of (word_room c.args.«record» c.args.word.now)) refl _ c.in_ok-q.ensures.place _ c.renumbered.ensures

@@ -8,4 +8,4 @@ pub returns : goal.returns
 returns c =
     let g = c.args in
     rw (c.number_of.ensures, c.moduli.ensures.0, c.moduli.ensures.1)
-    (syndrome-accepted g.«record» g.word.now _ (c.in_ok-e.ensures.answer ∙ ap answer_of (word_room g.«record» g.word.now)) refl _ c.in_ok-e.ensures.sum _ refl)
+    (syndrome-accepted g.«record» g.word.now _ (c.in_ok-syndrome.ensures.answer ∙ ap answer_of (word_room g.«record» g.word.now)) refl _ c.in_ok-syndrome.ensures.sum _ refl)

@@ -6,4 +6,4 @@ use Rattle.coder.proofs.work.third.Goals as goal
 
 pub returns : goal.returns
 returns c =
-    third-told _ _ _ _ (ap (λ (a : Answer). a.refusal) c.in_ok-places.ensures) refl _ (rw c.code.ensures at c.third.ensures) _ c.told.ensures
+    third-told _ _ _ _ (ap (λ (a : Answer). a.refusal) c.in_ok-places.ensures) refl _ (rw c.code.ensures at c.third.ensures) _ c.renumbered.ensures
