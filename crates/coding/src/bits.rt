@@ -9,6 +9,7 @@ const BLOCK: usize = 16;
 
 // The lowest place of a byte above 1, where the bytes before an index are 0 or 1: block by block, and in a block that
 // has one byte by byte. Each caller knows that there is one, and needs no Option; 0 for none is what bad_from says.
+// The index stays beside the word, since places are told by the whole word's.
 pub(crate) fn first_bad(word: &[u8], begin: usize) -> usize
     requires { (begin ≤ length word.now) × BitsIn word.now 0 begin }
     ensures { result ≡ bad_from 1 word.now }
@@ -55,7 +56,7 @@ pub(crate) fn bits(bytes: &[u8]) -> bool
     highest(bytes) <= 1
 }
 
-// The highest of these bytes, or 0 where there is none.
+// The highest of these bytes, or 0 where there is none; a `for`, since `max` would tell an Option.
 fn highest(bytes: &[u8]) -> u8
     ensures { Highest bytes.now 0 (length bytes.now) result }
 {

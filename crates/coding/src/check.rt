@@ -1,5 +1,5 @@
 // The check part: its digits are the components of an element, a byte for each binary one and two for
-// each quaternary one.
+// each quaternary one. `Moduli` is for any a and b, so that they are few is required.
 ghost use Rattle.std.specs.Prelude.{◌≡◌, ◌+◌, ◌*◌, ◌≤◌, ◌++◌, length, drop, MatchOption};
 ghost use Rattle.group_theory.specs.Group.{moduli};
 ghost use Rattle.layout_theory.specs.Layout.{units};

@@ -58,7 +58,8 @@ pub(crate) fn message_sum(h: Shape, d: usize, word: &[u8], seen: usize) -> Optio
 }
 
 impl Message<'_> {
-    // The sum by an array of weights that has room for codes up to t = 6, 10 and 12. It and what it calls here are
+    // The sum by an array of weights that has room for codes up to t = 6, 10 and 12: three calls, since a const argument
+    // cannot be computed. It and what it calls here are
     // always inlined: so the two calls above stay two when compiled, one of them without cutting.
     #[inline(always)]
     fn sum<const CUT: bool>(&self) -> Option<Element>

@@ -3,7 +3,7 @@
 // numbers that have one digit in their highest component are a block, so that one component after the
 // other can be taken off: what the blocks add to it is a sum of totals, and the weights that are left
 // are sums of blocks. Every loop runs over neighbouring bytes, so that the compiler makes vector code
-// of it.
+// of it. `Moduli` is for any a and b, so that they are few is required where it matters.
 #![tactic(auto)]
 
 ghost use Rattle.std.specs.Prelude.{◌≡◌, ◌+◌, ◌*◌, ◌/◌, ◌%◌, ◌^◌, ◌<◌, ◌≤◌, ◌↔◌, ◌++◌, length, take, drop, IsTrue};

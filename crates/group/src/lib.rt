@@ -11,7 +11,8 @@ ghost use Rattle.group_theory.specs.Sign.{all_zero, first_of};
 // "An element is held as its list of components."
 pub type Element = [u8; 12];
 
-// Of which moduli the components are: a of them 2, the next b of them 4; the others are unused.
+// Of which moduli the components are: a of them 2, the next b of them 4; the others are unused. Any two numbers
+// may stand here. Callers make it of the two fields of a shape: a `From` would have this crate know the layout.
 #[derive(Clone, Copy)]
 pub struct Moduli {
     pub a: usize,
@@ -89,7 +90,7 @@ pub fn is_zero(x: Element) -> bool
     first(x) == 12
 }
 
-// The index of the first component that is not 0, or 12.
+// The index of the first component that is not 0, or 12: no Option, since `first_of` is a number.
 fn first(x: Element) -> usize
     ensures { result ≡ first_of x }
 {

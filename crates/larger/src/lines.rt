@@ -25,7 +25,7 @@ impl fmt::Display for Counts {
     }
 }
 
-// An answer as C has it, and after it the place in a refusal, which C is not told.
+// An answer as C has it, and after it the place in a refusal, which C is not told: the two numbers of `Answer`.
 #[derive(Drop)]
 struct Told {
     refusal: u32,

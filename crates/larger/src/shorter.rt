@@ -23,7 +23,7 @@ pub(crate) fn rounds(rt: &impl Print, code: Record, count: u32, draw: &mut Draw)
 
 // Part 1 has `part` places and a message of the whole code m, of which one has to stay. In between there are
 // pairs, unless r = t or t = 2, where part is m. With t = 2 the difference m - 2 wraps, which gives one more s that
-// is not allowed.
+// is not allowed. A table of numbers, nine fixed ones and then drawn ones.
 fn chosen(i: u32, part: u32, m: u32, drawn: u32) -> u32 {
     match i {
         0 => 1,

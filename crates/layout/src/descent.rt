@@ -77,7 +77,7 @@ impl Blocks {
 }
 
 // What follows of a kind and of a sign are free functions: the two enums stand in a crate of theory, which
-// has no functions.
+// has no functions; and since they are two, so are `after` and `sign_after`.
 
 // The kind of the numbers in the block of a digit. The sign is that of the components below where one of
 // them is odd, and else that of the digit. So an even digit asks of those below what was asked before,

@@ -9,7 +9,7 @@ ghost use Rattle.listing.specs.Appends.{Appends};
 #[derive(Drop)]
 pub(crate) struct Text<'a> {
     out: &'a mut [u8],
-    // where the text ends
+    // where the text ends, beyond the buffer too, since the length of the whole is told
     at: usize,
 }
 

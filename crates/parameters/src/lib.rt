@@ -15,7 +15,7 @@ pub use layout_theory::Shape;
 // The largest t in use.
 const LONGEST: u32 = 12;
 
-// Whether t and r are admitted.
+// Whether t and r are admitted: asked before there is a code, so of two numbers.
 #[tactic(auto, unfolding(layout_theory::specs::Parameters::admits))]
 pub fn admitted(t: u32, r: u32) -> bool
     ensures { result ≡ admits t r }

@@ -14,7 +14,8 @@ fn main(rt: HostRuntime) -> io::Result<()> {
     rt.write_all(sheet)
 }
 
-// Reads until the buffer is full, the input ends or a read fails, and gives the bytes that came.
+// Reads until the buffer is full, the input ends or a read fails, and gives the bytes that came. No `for`: a step is what
+// a read gave.
 fn read_full<'a>(input: &mut impl Read, buffer: &'a mut [u8]) -> &'a [u8] {
     let mut done = 0;
     while done < buffer.len() {

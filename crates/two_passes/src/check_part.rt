@@ -1,5 +1,5 @@
 // The check part: its digits are the components of an element, a byte for each binary one and two for
-// each quaternary one.
+// each quaternary one. `Moduli` is for any a and b, so that they are few is required.
 ghost use Rattle.std.specs.Prelude.{◌≡◌, ◌+◌, ◌*◌, ◌≤◌, length};
 ghost use Rattle.group_theory.specs.Group.{moduli};
 ghost use Rattle.layout_theory.specs.Layout.{units};
@@ -13,6 +13,7 @@ pub(crate) fn read(m: Moduli, check: &[u8]) -> Element
     ensures { result ≡ syndrome_over (moduli m.a m.b) (units (moduli m.a m.b)) check.now }
 {
     let mut e = [0u8; 12];
+    // The index of the next byte: a component has one or two.
     let mut at: usize = 0;
     for i in 0..m.a + m.b {
         if i < m.a {

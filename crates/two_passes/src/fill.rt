@@ -12,7 +12,7 @@ use folds::{ROOM6, ROOM10, ROOM12};
 use parameters::Code;
 
 // The array for the filled word has one of three lengths, for codes up to t = 6, 10 and 12, so that a short code
-// does not pay for the longest.
+// does not pay for the longest: three calls, since a const argument cannot be computed.
 pub(crate) fn fault(code: Code, word: &[u8]) -> u32
     requires { Fits code.t code.r code.s (places_of code.t) (length word.now) }
     ensures { result ≡ words.fault (moduli_for code.t code.r) (fill code.s word.now) }

@@ -3,7 +3,7 @@
 // and the contract is that of `coder::correct`. What is wrong with a call is found by crate checks, and in the bytes
 // by bytes.rt; shorter.rt finds the place at fault, by whole.rt and what is named there; the flip is crate coding's, and
 // crate checks counts. Bytes, syndrome and filling stand here in their own text, though crate coding has the like:
-// they are what is measured.
+// they are what is measured. Place 0 for none is document 01's own number, and so `fault_for`'s.
 #![tactic(auto)]
 
 mod bytes;

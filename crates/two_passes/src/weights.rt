@@ -43,7 +43,8 @@ impl<'a> Message<'a> {
     }
 
     // The sum of the message's places: each single's byte and each pair's digit times its element. The array of
-    // weights has room for codes up to t = 6, 10 or 12, so that a short code does not pay for the longest.
+    // weights has room for codes up to t = 6, 10 or 12, so that a short code does not pay for the longest: three calls,
+    // since a const argument cannot be computed.
     pub(crate) fn sum(&self) -> Element
         ensures { result ≡ syndrome_over (moduli self.now.m.a self.now.m.b) (message (moduli self.now.m.a self.now.m.b)) self.now.word.now }
     {
