@@ -59,9 +59,7 @@ pub(crate) fn message_sum(h: Shape, d: usize, word: &[u8], seen: usize) -> Optio
 
 impl Message<'_> {
     // The sum by an array of weights that has room for codes up to t = 6, 10 and 12: three calls, since a const argument
-    // cannot be computed. It and what it calls here are
-    // always inlined: so the two calls above stay two when compiled, one of them without cutting.
-    #[inline(always)]
+    // cannot be computed.
     fn sum<const CUT: bool>(&self) -> Option<Element>
         requires { CUT ≡ false → self.now.filled.d ≡ 0 }
         ensures { Sums self.now.m.a self.now.m.b (fill self.now.filled.d self.now.filled.word.now) result }
@@ -76,9 +74,9 @@ impl Message<'_> {
         self.summed::<ROOM12, CUT>()
     }
 
-    // The same by an array of N weights. Where no place is left out, nothing of the cutting is left in this function
-    // when it is compiled.
-    #[inline(always)]
+    // The same by an array of N weights. A function of its own for each N and each CUT, so that a call has one array on
+    // its stack, and where no place is left out nothing of the cutting.
+    #[inline(never)]
     fn summed<const N: usize, const CUT: bool>(&self) -> Option<Element>
         requires { (CUT ≡ false → self.now.filled.d ≡ 0) × Holds self.now.m.a self.now.m.b N }
         ensures { Sums self.now.m.a self.now.m.b (fill self.now.filled.d self.now.filled.word.now) result }
