@@ -10,7 +10,7 @@ use Rattle.words_theory.specs.Digits as digits
 use Rattle.gray.proofs.digit.Goals as goal
 
 -- whether a byte is not 0, as a number
-small : (c : ℕ) → bool_byte (not (eqb c 0)) ≤ 1
+small : (c : ℕ) → bool_byte (not (eqb c 0)) ≤ 3
 small zero = omega arith
 small (suc c) = rw (ne_eqb (suc c) 0 (omega arith)) (omega arith)
 
@@ -24,7 +24,7 @@ lower b zero l z e = rw (z, e)
 lower b (suc c) l z e = rw (z, e, ne_eqb (suc c) 0 (omega arith))
 
 pub overflow_sub-result : goal.overflow_sub-result
-overflow_sub-result c = rw c.from-low.ensures (let h = small c.args.c in omega arith)
+overflow_sub-result c = rw c.from-low.ensures (small _)
 
 pub returns-then-b-ne0 : goal.returns-then-b-ne0
 returns-then-b-ne0 c = upper _ _ _ c.if-b-ne0.true c.from-low.ensures
