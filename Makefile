@@ -133,6 +133,7 @@ check-c: $(OUT)/example $(OUT)/calls_test $(OUT)/table_test $(OUT)/long_test $(O
 	$(CC) $(WARN) -std=c11 -fsyntax-only include/z2z4.h
 	$(CXX) -pedantic -Wall -Wextra -Werror -fsyntax-only -x c++ include/z2z4.h
 	$(OUT)/example | diff host/c/example.out -
+	nm -u $(LINKED) | awk '$$1 == "U" && $$2 != "memcpy" && $$2 != "memset" { print "the library needs " $$2; n = 1 } END { exit n }'
 	sed -n '/^    #include <stdio.h>/,/^    }/s/^    //p' README.md >$(OUT)/try.c
 	$(CC) $(WARN) -Iinclude $(OUT)/try.c $(LINKED) -o $(OUT)/try
 	$(OUT)/try | diff host/c/try.out -

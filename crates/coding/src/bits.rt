@@ -2,7 +2,7 @@
 // is found many bytes at a time.
 ghost use Rattle.std.specs.Prelude.{◌≡◌, ◌<◌, ◌≤◌, length, slice_index, MatchOption};
 ghost use Rattle.words_theory.specs.Calls.{bad_from};
-ghost use Rattle.loops_theory.specs.Passing.{BitsIn, BadIn, Highest, Says};
+ghost use Rattle.loops_theory.specs.Passing.{BitsIn, BadIn, Highest, Says, head_of};
 
 // As many bytes as are looked at together where the lowest place is searched.
 const BLOCK: usize = 16;
@@ -37,7 +37,7 @@ fn first_above(bytes: &[u8]) -> Option<usize>
 // out costs more than the whole test of a word whose bad byte is near its front. The lengths are written out, so
 // that the loops over 192 and 512 bytes are compiled for them.
 pub(crate) fn front(word: &[u8]) -> Option<usize>
-    ensures { MatchOption result (BadIn word.now 0 (length word.now)) (λ k. (k ≤ length word.now) × BitsIn word.now 0 k) }
+    ensures { MatchOption result (BadIn word.now 0 (length word.now)) (λ k. (k ≡ head_of (length word.now)) × (k ≤ length word.now) × BitsIn word.now 0 k) }
 {
     let n = word.len();
     if n < 192 {

@@ -86,7 +86,7 @@ fn encode_fit(code: Code, message: &[u8], out: &mut [u8]) -> Result<(), u32>
         return Err(bits::first_bad(message, 0) as u32);
     };
     let y = m.neg(sum);
-    out[..message.len()].copy_from_slice(message);
+    copy(message, &mut out[..message.len()]);
     check::write(m, y, &mut out[message.len()..]);
     Ok(())
 }
@@ -122,6 +122,17 @@ pub fn flip(word: &[u8], place: u32, out: &mut [u8])
     if out.len() < word.len() {
         return;
     }
-    out[..word.len()].copy_from_slice(word);
+    copy(word, &mut out[..word.len()]);
     flip_in_place(place, &mut out[..word.len()]);
+}
+
+// Copies bytes. A loop: the compiler does not know of two lent slices that they lie apart, and for `copy_from_slice` it would
+// ask the host for `memmove`, where the library for C needs `memcpy` and `memset` alone.
+fn copy(from: &[u8], to: &mut [u8])
+    requires { length to.old ≡ length from.now }
+    ensures { to.new ≡ from.now }
+{
+    for i in 0..from.len() {
+        to[i] = from[i];
+    }
 }

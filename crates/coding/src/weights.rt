@@ -97,7 +97,8 @@ impl Message<'_> {
     // The moduli where the word is good; else such as no code has, so that the weights of a bad word are not summed. Not
     // by an `if` around the call: an array handed by value behind a branch is copied.
     fn moduli_if(&self, good: bool) -> Moduli
-        ensures { good ≡ true → result ≡ self.now.m }
+        ensures whole { good ≡ true → result ≡ self.now.m }
+        ensures none { good ≡ false → result.a ≡ 13 }
     {
         if good { self.m } else { Moduli { a: 13, b: 0 } }
     }

@@ -6,7 +6,7 @@ use mathlib.Core.List.{List, [], ◌∷◌}
 use Prim.Native.Nat.{ℕ, zero, suc, ◌+◌, ◌-◌, ◌%◌, max, ◌<◌, ◌≤◌}
 use native.Mathlib.Decide.{dec_lt}
 use native.Mathlib.Omega.{arith}
-use borrow.Author.Tests.{le-leb, lt-leb}
+use borrow.Author.Tests.{le-leb, lt-leb, le-ltb, lt-ltb}
 use lib.Dec.{leb}
 use Rattle.std.specs.Prelude.{Option, MatchOption}
 use Rattle.std.specs.Bool.{then_some}
@@ -20,7 +20,7 @@ use Rattle.words_theory.specs.Words.{Bits}
 use Rattle.words_theory.specs.Calls.{bad_from}
 use Rattle.words_theory.proofs.Bad.{bad-step, bad-found, bad-end, bits_none, none-bits}
 use Rattle.shortened_theory.specs.Code.{fill}
-use Rattle.loops_theory.specs.Passing.{BitsIn, BadIn, Says, Tells, Highest}
+use Rattle.loops_theory.specs.Passing.{BitsIn, BadIn, Says, Tells, Highest, head_of}
 use Rattle.shortened_theory.specs.Allowed.{EndsWhole}
 use Rattle.loops_theory.specs.Spread.{message_in, spread, HoldsMessage}
 use Rattle.loops_theory.proofs.Cuts.{get_or-left, get_or-fill, get_d_kept}
@@ -298,14 +298,27 @@ module _ (w : List ℕ) (i : ℕ) where
       let l = length-rest in
       sym (bad-skip w i (length rest) (omega arith) (bits-part w i (length w - i) (length rest) (omega arith) f) ∙ bad-end w (i + length rest) (omega arith))
 
--- a test of the front of a word
-pub front-told : (w : List ℕ) (n : ℕ) → n ≤ length w → (r : Option ℕ) (x : Bool) → r ≡ then_some {T = ℕ} x n → Says x (take n w) 0 (length (take n w))
-    → MatchOption r (BadIn w 0 (length w)) (λ k. (k ≤ length w) × BitsIn w 0 k)
-front-told w n h r x e f = go x e (subst (Says x w 0) (omega arith) (says-part w 0 n n (omega arith) x (subst (Says x (take n w) 0) (length-take-le n w h) f)))
-  where
-    go : (x : Bool) → r ≡ then_some {T = ℕ} x n → Says x w 0 n → MatchOption r (BadIn w 0 (length w)) (λ k. (k ≤ length w) × BitsIn w 0 k)
-    go true e f = rw e (h, f)
-    go false e f = rw e (bad-within w f)
+-- ---- the front of a word
+pub head-short : (n : ℕ) → n < 192 → head_of n ≡ n
+head-short n h = rw (lt-ltb n 192 h)
+
+pub head-middle : (n : ℕ) → 192 ≤ n → n < 1024 → head_of n ≡ 192
+head-middle n h k = rw (le-ltb n 192 h, lt-ltb n 1024 k)
+
+pub head-long : (n : ℕ) → 192 ≤ n → 1024 ≤ n → head_of n ≡ 512
+head-long n h k = rw (le-ltb n 192 h, le-ltb n 1024 k)
+
+-- a test of as many bytes
+pub front-says : (w : List ℕ) (n : ℕ) → n ≤ length w → head_of (length w) ≡ n → (r : Option ℕ) (x : Bool) → r ≡ then_some {T = ℕ} x n → Says x w 0 n
+    → MatchOption r (BadIn w 0 (length w)) (λ k. (k ≡ head_of (length w)) × (k ≤ length w) × BitsIn w 0 k)
+front-says w n h z r true e f = rw e (sym z, h, f)
+front-says w n h z r false e f = rw e (bad-within w f)
+
+-- of the bytes alone
+pub front-told : (w : List ℕ) (n : ℕ) → n ≤ length w → head_of (length w) ≡ n → (r : Option ℕ) (x : Bool) → r ≡ then_some {T = ℕ} x n
+    → Says x (take n w) 0 (length (take n w)) → MatchOption r (BadIn w 0 (length w)) (λ k. (k ≡ head_of (length w)) × (k ≤ length w) × BitsIn w 0 k)
+front-told w n h z r x e f =
+    front-says w n h z r x e (subst (Says x w 0) (omega arith) (says-part w 0 n n (omega arith) x (subst (Says x (take n w) 0) (length-take-le n w h) f)))
 
 -- a test of the last bytes of a word
 pub says-tells : (w : List ℕ) (s e : ℕ) (x : Bool) → Says x w s e → Tells x w s e

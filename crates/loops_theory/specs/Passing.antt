@@ -1,5 +1,6 @@
 -- What a pass over a word tells of its bytes: whether some of them are above 1. Assumes nothing.
-use Rattle.std.specs.Prelude.{Bool, true, false, List, ℕ, ◌<◌, ◌≤◌, length, get_or}
+use Rattle.std.specs.Prelude.{Bool, true, false, List, ℕ, ◌<◌, ◌≤◌, ltb, length, get_or}
+use Rattle.layout_theory.specs.Choice.{pick}
 
 -- the bytes from the index `start` up to `end` are 0 or 1; or one of them is not
 abbrev pub BitsIn : List ℕ → ℕ → ℕ → Type 0
@@ -25,3 +26,7 @@ Tells false w start end = BadIn w 0 (length w)
 pub record Highest (w : List ℕ) (start end x : ℕ) : Type 0 where
   pub most : (i : ℕ) → start ≤ i → i < end → get_or w i 0 ≤ x
   pub some : 1 < x → BadIn w start end
+
+-- as many bytes of a word of n as are tested before the pass
+abbrev pub head_of : ℕ → ℕ
+head_of n = pick (ltb n 192) n (pick (ltb n 1024) 192 512)

@@ -35,9 +35,9 @@ write-requires c =
     let a = c.requires.0.all in
     let h = c.requires.1 in
     let n = length g.message.now in
-    let e : length c.copy_from_slice.new.self ≡ n = ap length c.copy_from_slice.ensures.after in
-    let l = length-put n g.out.now c.copy_from_slice.new.self e (omega (arith, z.check, k.message, k.places)) in
-    let r = length-rest (c.copy_from_slice.new.self ++ drop n g.out.now) n in
+    let e : length c.copy.new.to ≡ n = ap length c.copy.ensures in
+    let l = length-put n g.out.now c.copy.new.to e (omega (arith, z.check, k.message, k.places)) in
+    let r = length-rest (c.copy.new.to ++ drop n g.out.now) n in
     (z.room, omega (arith, z.check, k.message, k.places))
 
 pub returns : goal.returns
@@ -50,5 +50,5 @@ returns c =
     record {
       bad = told-none _ _ z;
       bytes = encoded-good _ _ _ _ e g.message.now c.requires.0 g.out.now _ _ _ z x.1 c.neg-y.ensures
-          (put_over g.message.now g.out.now _ _ _ (h.a + 2 * h.b) c.copy_from_slice.ensures.after c.write.ensures);
+          (put_over g.message.now g.out.now _ _ _ (h.a + 2 * h.b) c.copy.ensures c.write.ensures);
     }

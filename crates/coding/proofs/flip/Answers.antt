@@ -9,5 +9,5 @@ returns-then-out-word c = flip-narrow _ _ _ c.if-out-word.true
 pub returns : goal.returns
 returns c =
     let g = c.args in
-    flip-copied g.word.now g.out.now _ _ g.place c.copy_from_slice.ensures.after c.flip_in_place.ensures
+    flip-copied g.word.now g.out.now _ _ g.place c.copy.ensures c.flip_in_place.ensures
     ∙ flip-whole g.word.now g.out.now g.place c.if-out-word.false

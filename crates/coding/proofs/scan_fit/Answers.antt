@@ -13,7 +13,7 @@ fits : (b : Start) → let g = b.args in Fits g.code.t g.code.r g.code.s (places
 fits b = word_fits _ _ _ _ b.requires
 
 pub pass-requires : goal.pass-requires
-pass-requires c = let f = c.in-Some.ensures in (fits (goal.at.pass-requires c).Start, f.0, λ i a b. f.1 i a b)
+pass-requires c = let f = c.in-Some.ensures in (fits (goal.at.pass-requires c).Start, f.1, λ i a b. f.2 i a b)
 
 pub overflow_cast-result : goal.overflow_cast-result
 overflow_cast-result c =

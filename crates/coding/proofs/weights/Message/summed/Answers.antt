@@ -16,7 +16,7 @@ returns-then-good g c =
     let e = ap₂ fill c.cut.ensures.0 c.cut.ensures.1 in (
       λ i h l. subst (λ (w : List ℕ). get_or w i 0 ≤ 1) e (c.if-good.ensures.told i h l),
       c.weighted-sum.ensures
-          ∙ ap (λ (m : Moduli). weighted_for g.row.N m.a m.b c.lay-good.new.v) (c.moduli_if.ensures c.if-good.true)
+          ∙ ap (λ (m : Moduli). weighted_for g.row.N m.a m.b c.lay-good.new.v) (c.moduli_if.ensures.whole c.if-good.true)
           ∙ weights-sum _ _ _ _ _ _ _ c.requires.1 s.whole.front s.whole.all (c.if-good.ensures.laid refl)
           ∙ ap (syndrome_over ms (message ms)) e,
     )
