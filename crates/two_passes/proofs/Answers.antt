@@ -1,33 +1,33 @@
 -- What the functions on words answer, by their tests: those of a whole code, and the place at fault of one that may be shortened. Assumes nothing.
 use mathlib.Core.Path.{◌≡◌, refl, sym, ap, ap₂, subst, ◌∙◌}
+use mathlib.Core.Logic.{◌≢◌}
 use mathlib.Core.Bool.{Bool, true, false, and-false}
-use mathlib.Core.List.{List, [], ◌∷◌, ◌++◌}
-use Prim.Native.Nat.{ℕ, ◌+◌, ◌^◌, ◌<◌, ◌≤◌}
+use mathlib.Core.List.{List, ◌++◌}
+use Prim.Native.Nat.{ℕ, zero, suc, ◌<◌, ◌≤◌}
 use native.Mathlib.Omega.{arith}
 use borrow.Author.Tests.{le-leb, lt-leb}
-use borrow.Rule.Slice.PartMut.{put_mid}
-use lib.ListN.{length, take, get_or, length-replicate}
-use lib.Pow.{pow_mono}
-use Rattle.std.proofs.lemmas.List.{take-replicate}
-use Rattle.std.proofs.lemmas.Slice.{take-put_mid}
+use lib.ListN.{length}
+use Rattle.group_theory.specs.Group.{moduli, zeros}
 use Rattle.layout_theory.specs.Choice.{zero_unless}
 use Rattle.layout_theory.specs.Parameters.{admits, places_of, moduli_for}
 use Rattle.layout_theory.specs.Calls.{shape_for}
 use Rattle.layout_theory.specs.declared.Shape.{Shape}
-use Rattle.layout_theory.proofs.Parameters.{admits-admitted, admitted-admits, below_power, Known}
-use Rattle.words_theory.specs.Words.{zero_word}
-use Rattle.words_theory.specs.Calls.{fault, bad_from}
-use Rattle.words_theory.proofs.Bad.{bad-found}
-use Rattle.loops_theory.proofs.Passing.{bits-zero, bad-begin}
+use Rattle.layout_theory.proofs.Parameters.{admits-admitted, admitted-admits, below_power, Known, zeros-for}
+use Rattle.words_theory.specs.Syndrome.{syndrome}
+use Rattle.words_theory.specs.Calls.{fault}
 use Rattle.shortened_theory.specs.Code.{fill}
 use Rattle.shortened_theory.specs.Calls.{Fits, fits_word, shortened_fault_for}
 use Rattle.shortened_theory.proofs.Filling.{length-fill}
 use Rattle.shortened_theory.proofs.Guards.{word_fits}
-use Rattle.coder_theory.specs.Reasons.{first_reason, bad_byte}
-use Rattle.coder_theory.specs.Calls.{answer_of}
-use Rattle.coder_theory.proofs.Firsts.{first-no, first-end}
-use Rattle.coder_theory.proofs.Outcomes.{byte-bad, byte-good}
-use Rattle.two_passes.specs.Calls.{is_long, fault_for}
+use Rattle.coder_theory.specs.State.{places_in, message_in}
+use Rattle.coder_theory.specs.Reasons.{Reason, first_reason}
+use Rattle.coder_theory.specs.Calls.{state_reasons, word_length, message_length}
+use Rattle.coder_theory.specs.declared.Record.{Record}
+use Rattle.coder_theory.specs.declared.Size.{Size}
+use Rattle.coder_theory.proofs.Firsts.{first-before}
+use Rattle.coder_theory.proofs.States.{state-clear}
+use Rattle.coder_theory.proofs.Answers.{usable-length}
+use Rattle.two_passes.specs.Calls.{is_long, syndrome_for, fault_for}
 
 -- ---- the test of t and r and of a word's length
 -- a shape with no place is that of parameters that are not admitted
@@ -54,6 +54,19 @@ module _ (t r : ℕ) (w : List ℕ) (s : Shape) where
   long-whole : Known t r s → s.places ≤ length w → is_long t r w ≡ true
   long-whole k h =
       rw (admitted-admits t r k.admitted, le-leb (places_of t) (length w) (subst (λ (n : ℕ). n ≤ length w) k.places h))
+
+  -- ---- the syndrome
+  pub syndrome-none : s ≡ shape_for t r → s.places ≡ 0 → zeros (moduli s.a s.b) ≡ syndrome_for t r w
+  unfolding syndrome_for
+  syndrome-none e z = rw (long-none e z) (zeros-for s.a s.b _ _)
+
+  pub syndrome-short : Known t r s → length w < s.places → zeros (moduli s.a s.b) ≡ syndrome_for t r w
+  unfolding syndrome_for
+  syndrome-short k h = rw (long-short k h) (zeros-for s.a s.b _ _)
+
+  pub syndrome-long : Known t r s → s.places ≤ length w → syndrome (moduli_for t r) w ≡ syndrome_for t r w
+  unfolding syndrome_for
+  syndrome-long k h = rw (long-whole k h)
 
   -- ---- the place at fault
   pub fault-none : s ≡ shape_for t r → s.places ≡ 0 → 0 ≡ fault_for t r w
@@ -90,23 +103,18 @@ module _ (t r s : ℕ) (w : List ℕ) where
     shorter-whole e =
         ap (λ (k : ℕ). fault_for t r (fill k w)) (sym e) ∙ fault-filled t r s w (word_fits t r s (length w) y) ∙ shorter-filled
 
--- ---- an array for a word of the whole code
-pub places-within : (t k : ℕ) → t ≤ k → places_of t ≤ 2 ^ k
-places-within t k h = let q : 2 ^ t ≤ 2 ^ k = pow_mono {i = t} {j = k} h in omega arith
-
--- a word put behind the first s of n zeros
-pub filled-word : (s n k : ℕ) (w y : List ℕ) → y ≡ w → s + length w ≤ n → take (s + length w) (put_mid s k (zero_word n) y) ≡ fill s w
-filled-word s n k w y e h =
-    let l = length-replicate {A = ℕ} n 0 in
-    let m : length y ≡ length w = ap length e in
-    take-put_mid s k (zero_word n) y (s + length w) (omega arith) (omega arith) ∙ ap₂ (λ (t u : List ℕ). t ++ u) (take-replicate s n 0 (omega arith)) e
-
--- ---- bytes above 1
-pub no-bad : (w : List ℕ) → ((k : ℕ) → k < length w → get_or w k 0 ≤ 1) → record { refusal = 0; place = 0 } ≡ answer_of (first_reason (bad_byte w ∷ []))
-no-bad w f = sym (ap answer_of (first-no (bad_byte w) [] (byte-good w 0 (sym (bits-zero w (λ k a l. f k l))) refl) ∙ first-end))
-
-pub first-bad : (w : List ℕ) (i : ℕ) → i < length w → 1 < get_or w i 0 → ((k : ℕ) → k < i → get_or w k 0 ≤ 1)
-    → record { refusal = 4; place = i + 1 } ≡ answer_of (first_reason (bad_byte w ∷ []))
-first-bad w i h a f =
-    let e : i + 1 ≡ bad_from 1 w = sym (bad-found w i h a) ∙ bad-begin w i (omega arith) (λ k b l. f k l) in
-    byte-bad w (i + 1) e (omega arith) []
+-- ---- the lengths of a record that is not fit are 0, but then a reason before them applies
+module _ (rec : Record) (s : Size) (e : (s.places ≡ word_length rec) × (s.message ≡ message_length rec)) where
+  pub by_lengths : (rs : ℕ → ℕ → List Reason)
+      → first_reason (state_reasons rec ++ rs s.places s.message) ≡ first_reason (state_reasons rec ++ rs (places_in rec) (message_in rec))
+  unfolding word_length message_length
+  by_lengths rs = go (first_reason (state_reasons rec)).number refl
+    where
+      go : (n : ℕ) → (first_reason (state_reasons rec)).number ≡ n
+          → first_reason (state_reasons rec ++ rs s.places s.message) ≡ first_reason (state_reasons rec ++ rs (places_in rec) (message_in rec))
+      go zero z =
+          let f = state-clear rec z in
+          ap₂ (λ (n m : ℕ). first_reason (state_reasons rec ++ rs n m)) (e.0 ∙ usable-length rec (places_in rec) f) (e.1 ∙ usable-length rec (message_in rec) f)
+      go (suc n) z =
+          let h : (first_reason (state_reasons rec)).number ≢ 0 = λ y. let c : suc n ≡ 0 = sym z ∙ y in omega arith in
+          first-before (state_reasons rec) (rs s.places s.message) h ∙ sym (first-before (state_reasons rec) (rs (places_in rec) (message_in rec)) h)

@@ -1,14 +1,17 @@
 // Correction as it was before request C-14: one pass over the word for bytes above 1, another for the
 // syndrome. Only the benchmark uses it, which times it beside `coder::correct`. Every input is answered,
 // and the contract is that of `coder::correct`. What is wrong with a call is found by crate checks, and in the bytes
-// by bytes.rt; shorter.rt finds the place at fault, by whole.rt and what is named there; the flip is crate coding's, and
-// crate checks counts. Bytes, syndrome and filling stand here in their own text, though crate coding has the like:
-// they are what is measured. Place 0 for none is document 01's own number, and so `fault_for`'s.
+// by bytes.rt; shorter.rt finds the place at fault, by whole.rt and what is named there; the flip is crate coding's;
+// count.rt counts. Bytes, syndrome, filling, the other half of a place and the counts stand here in their own text, though
+// crates coding, places and checks have the like: they are what is measured. Place 0 for none is document 01's own number,
+// and so `fault_for`'s.
 #![tactic(auto)]
 
 mod bytes;
 mod check_part;
+mod count;
 mod fill;
+mod halves;
 mod place;
 mod shorter;
 mod weights;
@@ -20,7 +23,7 @@ ghost use Rattle.coder_theory.specs.Calls.{correct_answer, correct_output};
 ghost use Rattle.checks.specs.Told.{told_counted};
 
 use checks::refusal::Refusal;
-use checks::{check, count, fit};
+use checks::{check, fit};
 pub use coder_theory::{Corrected, Record};
 
 // The codeword that differs from a word in at most one place, at the front of `out`, and that place.
@@ -29,8 +32,18 @@ pub fn correct(record: Record, word: &[u8], out: &mut [u8]) -> Corrected
     ensures answer { result ≡ correct_answer «record» word.now out.old }
     ensures bytes { out.new ≡ correct_output «record» word.now out.old }
 {
-    let changed = corrected(record, word, out);
-    count::change(record, changed)
+    match corrected(record, word, out) {
+        Ok(place) => Corrected {
+            refusal: 0,
+            place,
+            record: count::counted(record, place),
+        },
+        Err(x) => Corrected {
+            refusal: x.number(),
+            place: x.place(),
+            record,
+        },
+    }
 }
 
 // Writes the codeword, and answers the place that was flipped.

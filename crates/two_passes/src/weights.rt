@@ -1,8 +1,9 @@
 // The message's part of a syndrome. The bytes are laid out as weights, in the order in which crate folds
 // sums them: a weight for each place, so that there is no table and no search, and every loop runs
 // over neighbouring bytes. Zero and the units, which are no part of the message, have the weight 0
-// and stand at the head of each segment.
-ghost use Rattle.std.specs.Prelude.{◌≡◌, ℕ, true, false, ◌++◌, ◌∷◌, ◌+◌, ◌-◌, ◌*◌, ◌/◌, ◌%◌, ◌<◌, ◌≤◌, ◌==◌, length, take, drop};
+// and stand at the head of each segment. The functions behind the sum take its numbers and go by indexes of the word
+// and of the array, as they did then, and not by parts of them: so the compiler makes them part of the sum.
+ghost use Rattle.std.specs.Prelude.{◌≡◌, ℕ, true, false, ◌++◌, ◌∷◌, ◌+◌, ◌-◌, ◌*◌, ◌%◌, ◌<◌, ◌≤◌, ◌==◌, length, take, drop};
 ghost use Rattle.group_theory.specs.Group.{moduli};
 ghost use Rattle.layout_theory.specs.Choice.{pick};
 ghost use Rattle.layout_theory.specs.Layout.{message};
@@ -64,79 +65,62 @@ impl<'a> Message<'a> {
         ensures { result ≡ syndrome_over (moduli self.now.m.a self.now.m.b) (message (moduli self.now.m.a self.now.m.b)) self.now.word.now }
     {
         let mut v = [0u8; N];
-        self.lay(&mut v);
+        lay(self.m.a, self.m.b, self.count, self.part, self.word, &mut v);
         folds::weighted(self.m, v)
     }
+}
 
-    // The weights of all places: those of the pairs, and behind them those of the singles.
-    fn lay(&self, v: &mut [u8])
-        requires { Holds self.now.m.a self.now.m.b (length v.old) }
-        ensures { take self.now.count v.new ≡ spread true (moduli self.now.m.a self.now.m.b) (plus (level self.now.m.a self.now.m.b self.now.m.b)) (drop self.now.part self.now.word.now) ++ spread false (moduli self.now.m.a self.now.m.b) (even (level self.now.m.a self.now.m.b self.now.m.b)) self.now.word.now }
-    {
-        let start = self.count - (self.part + self.m.a + 1);
-        self.pairs(&mut v[..start]);
-        self.singles(&mut v[start..self.count]);
-    }
+// Lays out the weights of all places of the message: those of the pairs, then those of the singles.
+fn lay(a: usize, b: usize, count: usize, part: usize, word: &[u8], v: &mut [u8])
+    requires { HoldsMessage a b count part (length word.now) × Holds a b (length v.old) }
+    ensures { take count v.new ≡ spread true (moduli a b) (plus (level a b b)) (drop part word.now) ++ spread false (moduli a b) (even (level a b b)) word.now }
+{
+    pairs(a, b, count, part, word, v);
+    singles(a, b, count, part, word, v);
+}
 
-    // The weights of the pairs: for each quaternary component a segment, up to the unit of the next one.
-    fn pairs(&self, v: &mut [u8])
-        requires { (length v.old ≡ 2 * plus_to self.now.m.a self.now.m.b self.now.m.b) × (length v.old ≤ room) }
-        ensures { v.new ≡ spread true (moduli self.now.m.a self.now.m.b) (plus (level self.now.m.a self.now.m.b self.now.m.b)) (drop self.now.part self.now.word.now) }
-    {
-        let mut p: usize = 0;
-        let mut e = 1usize << self.m.a;
-        let mut at = self.part;
-        for _ in 0..self.m.b {
-            let q = 4 * p + e;
-            let n = 2 * (q - p - 1);
-            pair_segment(&self.word[at..at + n], &mut v[2 * p..2 * q]);
-            at += n;
-            p = q;
-            e *= 2;
-        }
-    }
-
-    // The weights of the singles: zero, for each binary component a segment, and the others, among which
-    // there is no unit.
-    fn singles(&self, v: &mut [u8])
-        requires { length v.old ≡ self.now.part + self.now.m.a + 1 }
-        ensures { v.new ≡ spread false (moduli self.now.m.a self.now.m.b) (even (level self.now.m.a self.now.m.b self.now.m.b)) self.now.word.now }
-    {
-        v[0] = 0;
-        let mut n: usize = 1;
-        let mut at: usize = 0;
-        for _ in 0..self.m.a {
-            single_segment(&self.word[at..at + n - 1], &mut v[n..2 * n]);
-            at += n - 1;
-            n *= 2;
-        }
-        v[n..].copy_from_slice(&self.word[at..self.part]);
+// The weights of the pairs: for each quaternary component a segment, up to the unit of the next one.
+fn pairs(a: usize, b: usize, count: usize, part: usize, word: &[u8], v: &mut [u8])
+    requires { HoldsMessage a b count part (length word.now) × Holds a b (length v.old) }
+    ensures { take (2 * plus_to a b b) v.new ≡ spread true (moduli a b) (plus (level a b b)) (drop part word.now) }
+{
+    let mut p: usize = 0;
+    let mut e = 1usize << a;
+    let mut at = part;
+    for _ in 0..b {
+        let n = 3 * p + e - 1;
+        pair_segment(word, at, v, p, n);
+        at += 2 * n;
+        p = 4 * p + e;
+        e = 2 * e;
     }
 }
 
-// The weight 0 of a unit, and the weights of the pairs after it.
-fn pair_segment(pairs: &[u8], v: &mut [u8])
-    requires { (length v.old ≡ 2 + length pairs.now) × (length pairs.now % 2 ≡ 0) }
-    ensures { v.new ≡ 0 ∷ 0 ∷ row true (length v.old / 2 - 1) pairs.now }
+// The weight 0 of a unit, behind p pairs, and the weights of the n pairs after it.
+fn pair_segment(word: &[u8], at: usize, v: &mut [u8], p: usize, n: usize)
+    requires { (at + 2 * n ≤ length word.now) × (2 * p + (2 + 2 * n) ≤ length v.old) × (length v.old ≤ room) }
+    ensures { take (2 * p + (2 + 2 * n)) v.new ≡ take (2 * p) v.old ++ 0 ∷ 0 ∷ row true n (drop at word.now) }
 {
-    v[0] = 0;
-    v[1] = 0;
-    digits(pairs, &mut v[2..]);
-}
-
-// The digits of pairs, each followed by a 0: the digits of all neighbours, every other one masked away. What
-// would be the digit of the last place and the next one is not asked for, since there may be no next one.
-fn digits(pairs: &[u8], v: &mut [u8])
-    requires { (length v.old ≡ length pairs.now) × (length pairs.now % 2 ≡ 0) }
-    ensures { v.new ≡ row true (length pairs.now / 2) pairs.now }
-{
-    let Some(last) = pairs.len().checked_sub(1) else {
+    v[2 * p] = 0;
+    v[2 * p + 1] = 0;
+    if n == 0 {
         return;
-    };
-    for i in 0..last {
-        v[i] = every_other(i, gray::digit(pairs[i], pairs[i + 1]));
     }
-    v[last] = 0;
+    digits(word, at, v, 2 * p + 2, n);
+    v[2 * p + 1 + 2 * n] = 0;
+}
+
+// The digits of n pairs, each followed by a 0, but for the last 0: what would be the digit of that place and
+// the next one is not asked for, since there may be no next one.
+fn digits(word: &[u8], at: usize, v: &mut [u8], k: usize, n: usize)
+    requires { (0 < n) × (at + 2 * n ≤ length word.now) × (k + 2 * n ≤ length v.old) × (length v.old ≤ room) }
+    ensures { take (k + (2 * n - 1)) v.new ≡ take k v.old ++ take (2 * n - 1) (row true n (drop at word.now)) }
+{
+    let m = 2 * n - 1;
+    for i in 0..m {
+        let d = gray::digit(word[at + i], word[at + i + 1]);
+        v[k + i] = every_other(i, d);
+    }
 }
 
 // The digit d at an even index, and 0 at an odd one: by a mask, which becomes a constant in vector code.
@@ -147,11 +131,40 @@ fn every_other(i: usize, d: u8) -> u8
     d & (3 - 3 * odd)
 }
 
-// The weight 0 of a unit, and the bytes after it.
-fn single_segment(singles: &[u8], v: &mut [u8])
-    requires { length v.old ≡ 1 + length singles.now }
-    ensures { v.new ≡ 0 ∷ row false (length v.old - 1) singles.now }
+// The weights of the singles, behind those of the pairs: zero, for each binary component a segment, and the
+// others, among which there is no unit.
+fn singles(a: usize, b: usize, count: usize, part: usize, word: &[u8], v: &mut [u8])
+    requires { HoldsMessage a b count part (length word.now) × Holds a b (length v.old) }
+    ensures { take count v.new ≡ take (2 * plus_to a b b) v.old ++ spread false (moduli a b) (even (level a b b)) word.now }
 {
-    v[0] = 0;
-    v[1..].copy_from_slice(singles);
+    let e = part + a + 1;
+    let start = count - e;
+    v[start] = 0;
+    let mut n: usize = 1;
+    let mut at: usize = 0;
+    for _ in 0..a {
+        single_segment(word, at, v, start + n, n - 1);
+        at += n - 1;
+        n = 2 * n;
+    }
+    bytes(word, at, v, start + n, e - n);
+}
+
+// The weight 0 of a unit, at index k, and the n bytes after it.
+fn single_segment(word: &[u8], at: usize, v: &mut [u8], k: usize, n: usize)
+    requires { (at + n ≤ length word.now) × (k + (1 + n) ≤ length v.old) × (length v.old ≤ room) }
+    ensures { take (k + (1 + n)) v.new ≡ take k v.old ++ 0 ∷ row false n (drop at word.now) }
+{
+    v[k] = 0;
+    bytes(word, at, v, k + 1, n);
+}
+
+// n bytes as they stand.
+fn bytes(word: &[u8], at: usize, v: &mut [u8], k: usize, n: usize)
+    requires { (at + n ≤ length word.now) × (k + n ≤ length v.old) × (length v.old ≤ room) }
+    ensures { take (k + n) v.new ≡ take k v.old ++ row false n (drop at word.now) }
+{
+    for i in 0..n {
+        v[k + i] = word[at + i];
+    }
 }

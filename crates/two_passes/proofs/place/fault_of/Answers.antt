@@ -1,30 +1,27 @@
 -- `two_passes::place::fault_of` meets its contract. Assumes nothing.
-use mathlib.Core.Path.{◌≡◌, refl, sym, ap, ◌∙◌}
-use mathlib.Core.Bool.{Bool, true, false}
+use mathlib.Core.Path.{◌≡◌, ap, ◌∙◌}
 use mathlib.Core.List.{List}
-use Prim.Native.Nat.{ℕ, ◌+◌, ◌-◌}
+use Prim.Native.Nat.{ℕ, ◌-◌, ◌<◌}
 use native.Mathlib.Omega.{arith}
-use borrow.Author.Tests.{eq-eqb, ne_eqb}
 use lib.Dec.{eqb}
 use lib.ListN.{get_or}
-use Rattle.group_theory.specs.Group.{Modulus, moduli, negative}
-use Rattle.layout_theory.specs.Choice.{pick}
-use Rattle.layout_theory.specs.Layout.{slots}
+use Rattle.group_theory.specs.Group.{moduli, negative}
 use Rattle.layout_theory.specs.Parameters.{moduli_for}
 use Rattle.layout_theory.specs.Calls.{place_for}
-use Rattle.layout_theory.proofs.Parameters.{Known, known, moduli-known}
-use Rattle.words_theory.specs.Halves.{other_at}
+use Rattle.layout_theory.proofs.Parameters.{Known, known}
 use Rattle.words_theory.specs.Calls.{fault_at, fault}
-use Rattle.loops_theory.proofs.Faults.{fault-nothing, fault-something}
-use Rattle.places.proofs.OtherPlace.{Told, told-there}
+use Rattle.words_theory.proofs.Shapes.{other-within}
+use Rattle.loops_theory.proofs.Faults.{pick-lt, place-within, fault-nothing, fault-something}
 use Rattle.two_passes.proofs.place.fault_of.Goals as goal
-use Rattle.two_passes.proofs.place.fault_of.Goals.{After-other_half-k, After-place_of-p, Start}
+use Rattle.two_passes.proofs.place.fault_of.Goals.{After-half-j, After-other_index-k, After-place_of-p, Else-p-eq0, Start}
 
 shaped : (c : Start) → Known c.args.code.t c.args.code.r c.args.h
 shaped c = known _ _ _ c.requires.0 c.requires.1
 
 -- the element is the word's syndrome
-told : (c : Start) → let g = c.args in let ms = moduli_for g.code.t g.code.r in fault_at ms g.e g.word.now ≡ fault ms g.word.now
+told : (c : Start)
+    → let g = c.args in
+    fault_at (moduli_for g.code.t g.code.r) g.e g.word.now ≡ fault (moduli_for g.code.t g.code.r) g.word.now
 told c = let g = c.args in ap (λ (x : List ℕ). fault_at (moduli_for g.code.t g.code.r) x g.word.now) c.requires.3
 
 -- what was looked for is minus the element
@@ -37,47 +34,46 @@ returns-then-p-eq0 c =
     let s = (goal.at.returns-then-p-eq0 c).Start in
     fault-nothing _ _ _ (shaped s) c.args.word.now _ _ (found q) c.if-p-eq0.true ∙ told s
 
--- the place found and its other half are places
-other : (c : After-other_half-k) → Told c.args.code.t c.args.code.r c.place_of-p.result c.other_half-k.result
-other c =
-    let k = shaped (goal.at.After-other_half-k c).Start in
-    told-there _ _ _ _ c.other_half-k.ensures k.admitted _ c.place_of-p.ensures (let n = c.if-p-eq0.false in omega arith)
+-- the index of the place found, that of its other half, and the one chosen are below n
+index-lt : (c : Else-p-eq0) → let q = (goal.at.Else-p-eq0 c).After-place_of-p in c.place_of-p.result - 1 < c.args.h.places
+index-lt c =
+    let s = (goal.at.Else-p-eq0 c).Start in
+    let h = place-within _ _ _ (shaped s) _ _ c.place_of-p.ensures in
+    let n = c.if-p-eq0.false in
+    omega arith
 
-pub bounds-word-p : goal.bounds-word-p
-bounds-word-p c =
-    let k = shaped (goal.at.bounds-word-p c).Start in
-    let o = other (goal.at.bounds-word-p c).After-other_half-k in
-    omega (arith, c.requires.2, k.places, o.place_most)
+other-lt : (c : After-other_index-k) → c.other_index-k.result < c.args.h.places
+other-lt c =
+    let h = other-within c.args.h (_, _, c.requires.0) c.requires.1 _ (index-lt (goal.at.After-other_index-k c).Else-p-eq0) in
+    omega (arith, c.other_index-k.ensures)
 
-pub overflow_sub-c : goal.overflow_sub-c
-overflow_sub-c c = (other (goal.at.overflow_sub-c c).After-other_half-k).some
+half_lt : (c : After-half-j) → c.half-j.result < c.args.h.places
+half_lt c =
+    let o = (goal.at.After-half-j c).After-other_index-k in
+    let w = c.args.word.now in
+    let i = c.place_of-p.result - 1 in
+    let k = c.other_index-k.result in
+    pick-lt (eqb (get_or w i 0) (get_or w k 0)) i k _ _ c.half-j.ensures (index-lt (goal.at.After-half-j c).Else-p-eq0) (other-lt o)
+
+pub other_index-k-requires : goal.other_index-k-requires
+other_index-k-requires c =
+    ((_, _, c.requires.0), index-lt c)
+
+pub bounds-word-i : goal.bounds-word-i
+bounds-word-i c = let h = index-lt (goal.at.bounds-word-i c).Else-p-eq0 in omega (arith, c.requires.2)
 
 pub bounds-word-k : goal.bounds-word-k
-bounds-word-k c =
-    let k = shaped (goal.at.bounds-word-k c).Start in
-    let o = other (goal.at.bounds-word-k c).After-other_half-k in
-    omega (arith, c.requires.2, k.places, o.most)
+bounds-word-k c = let h = other-lt (goal.at.bounds-word-k c).After-other_index-k in omega (arith, c.requires.2)
 
--- what is chosen of the two, where the test of their bytes says b
-chosen : (c : After-other_half-k) (b : Bool)
-    → let g = c.args in let p = c.place_of-p.result in let q = c.other_half-k.result in
-    eqb (get_or g.word.now (p - 1) 0) (get_or g.word.now (q - 1) 0) ≡ b → pick b (p - 1) (q - 1) + 1 ≡ fault (moduli_for g.code.t g.code.r) g.word.now
-chosen c b e =
-    let s = (goal.at.After-other_half-k c).Start in
-    let k = shaped s in
-    let p = c.place_of-p.result in
-    let i = (other c).index ∙ ap (λ (ms : List Modulus). other_at (slots ms) (p - 1)) (sym (moduli-known _ _ _ k)) in
-    fault-something _ _ _ k _ _ _ (found (goal.at.After-other_half-k c).After-place_of-p) c.if-p-eq0.false _ _ i (rw e refl) ∙ told s
+pub overflow_add-result : goal.overflow_add-result
+overflow_add-result c = let h = half_lt c in omega arith
 
-pub returns-then-b-c : goal.returns-then-b-c
-returns-then-b-c c =
-    let n = c.if-p-eq0.false in
-    let e : c.place_of-p.result ≡ c.place_of-p.result - 1 + 1 = omega arith in
-    e ∙ chosen (goal.at.returns-then-b-c c).After-other_half-k true (eq-eqb _ _ c.if-b-c.true)
+pub overflow_cast-result : goal.overflow_cast-result
+overflow_cast-result c = let h = half_lt c in omega arith
 
-pub returns-else-b-c : goal.returns-else-b-c
-returns-else-b-c c =
-    let q = (goal.at.returns-else-b-c c).After-other_half-k in
-    let n = (other q).some in
-    let e : c.other_half-k.result ≡ c.other_half-k.result - 1 + 1 = omega arith in
-    e ∙ chosen q false (ne_eqb _ _ c.if-b-c.false)
+pub returns : goal.returns
+returns c =
+    let q = (goal.at.returns c).After-place_of-p in
+    let s = (goal.at.returns c).Start in
+    fault-something _ _ _ (shaped s) _ _ _ (found q) c.if-p-eq0.false _ _ c.other_index-k.ensures c.half-j.ensures
+    ∙ told s

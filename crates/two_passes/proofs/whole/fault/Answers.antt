@@ -1,11 +1,8 @@
 -- `two_passes::whole::fault` meets its contract: 0, or the place told from the syndrome. Assumes nothing.
-use mathlib.Core.Path.{ap, ◌∙◌}
-use mathlib.Core.List.{List}
+use mathlib.Core.Path.{sym, ◌∙◌}
 use native.Mathlib.Omega.{arith}
-use Rattle.group_theory.specs.Group.{Modulus}
-use Rattle.layout_theory.proofs.Parameters.{Known, known, moduli-known}
-use Rattle.words_theory.specs.Syndrome.{syndrome}
-use Rattle.two_passes.proofs.Answers.{fault-none, fault-short, fault-long}
+use Rattle.layout_theory.proofs.Parameters.{Known, known}
+use Rattle.two_passes.proofs.Answers.{syndrome-long, fault-none, fault-short, fault-long}
 use Rattle.two_passes.proofs.whole.fault.Goals as goal
 use Rattle.two_passes.proofs.whole.fault.Goals.{Else-n-eq0, then-n-eq0-via-then-n-eq0, then-n-eq0-via-else-n-eq0+then-word-n}
 
@@ -24,8 +21,7 @@ pub fault_of-requires : goal.fault_of-requires
 fault_of-requires c =
     let k = shaped (goal.at.fault_of-requires c).Else-n-eq0 in
     let h = c.if-n-eq0.false in
-    let w = c.args.word.now in
-    (c.shape-h.ensures, omega arith, omega arith, c.syndrome-e.ensures ∙ ap (λ (ms : List Modulus). syndrome ms w) (moduli-known _ _ _ k))
+    (c.shape-h.ensures, omega arith, omega arith, c.syndrome-e.ensures ∙ sym (syndrome-long _ _ _ _ k (omega arith)))
 
 pub returns : goal.returns
 returns c = c.fault_of.ensures ∙ fault-long _ _ _ _ (shaped (goal.at.returns c).Else-n-eq0) (omega arith)
