@@ -35,7 +35,8 @@ pub fn places(record: Record, i: u32, j: u32) -> Result<(), Refusal>
 }
 
 // 21, 22, 10, 2 and 3: n bytes are asked of the word, and the output has `room` bytes of which `need` are
-// needed. No call here uses it: it is for other lengths, of a call whose output is longer than a word.
+// needed. Of the calls here only correction as it was (two_passes) uses it; it is for other lengths too, of a call whose
+// output is longer than a word.
 pub fn sizes(record: Record, n: u32, word: &[u8], need: u32, room: usize) -> Result<(), Refusal>
     ensures { told result ≡ answer_of (first_reason (state_reasons «record» ++ (wrong_length n word.now ∷ short_output need room ∷ []))) }
 {
