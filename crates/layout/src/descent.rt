@@ -86,10 +86,9 @@ fn after(kind: Kind, d: u8) -> Kind
     requires { d < 4 }
     ensures { result ≡ kind_after kind d }
 {
-    if d == 1 {
-        Kind::Low
-    } else if d == 3 {
-        Kind::Plus
+    // By parity first: where the digits cannot be foreseen, one jump and a choice cost less than two jumps.
+    if d % 2 != 0 {
+        if d == 1 { Kind::Low } else { Kind::Plus }
     } else {
         kind
     }

@@ -22,6 +22,7 @@ use blocks_theory::Sign;
 use group::{Element, Moduli};
 pub use layout_theory::Shape;
 use parameters::Code;
+pub use parameters::{admitted, shape_of};
 
 // The parts of an admitted code's places: the moduli, how many places part 1 has, and how many a message.
 #[derive(Clone, Copy)]

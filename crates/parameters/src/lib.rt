@@ -101,6 +101,13 @@ impl Code {
     }
 }
 
+// The shape of the code with t and r.
+pub fn shape_of(t: u32, r: u32) -> Shape
+    ensures { result ≡ shape_for t r }
+{
+    Code { t, r, s: 0 }.shape()
+}
+
 // Whether s ends inside part 1, at its end or after a whole pair, and a message place stays.
 fn ends(part: u32, message: u32, s: u32) -> bool
     ensures { result ≡ (ends_whole part s && ltb s message) }
