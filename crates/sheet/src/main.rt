@@ -1,6 +1,8 @@
 // Prints the sheet of the code that a line of standard input names.
 #![tactic(auto)]
 
+ghost use Rattle.std.specs.Prelude.{◌≤◌, length};
+
 use std::io::{self, Read};
 
 // No sheet is longer than its buffer: `in_buffer`, by `fits` in crate listing_theory, specs/Claims.antt.
@@ -16,7 +18,9 @@ fn main(rt: HostRuntime) -> io::Result<()> {
 
 // Reads until the buffer is full, the input ends or a read fails, and gives the bytes that came. No `for`: a step is what
 // a read gave.
-fn read_full<'a>(input: &mut impl Read, buffer: &'a mut [u8]) -> &'a [u8] {
+fn read_full<'a>(input: &mut impl Read, buffer: &'a mut [u8]) -> &'a [u8]
+    ensures { length result.now ≤ length buffer.old }
+{
     let mut done = 0;
     while done < buffer.len() {
         match input.read(&mut buffer[done..]) {
