@@ -59,7 +59,7 @@ valid-each (m ∷ ms) [] l h = absurd (omega arith)
 valid-each (m ∷ ms) (x ∷ e) l h = (h 0 (omega arith), valid-each ms e (omega arith) (λ i k. h (suc i) (omega arith)))
 
 module _ (a b : ℕ) (h : a + b ≤ 12) (x : List ℕ) where
-  ranges-valid : length x ≡ 12 → AllBelow x 0 a 2 → AllBelow x a (a + b) 4 → AllBelow x (a + b) 12 1 → Valid (moduli a b) x
+  pub ranges-valid : length x ≡ 12 → AllBelow x 0 a 2 → AllBelow x a (a + b) 4 → AllBelow x (a + b) 12 1 → Valid (moduli a b) x
   ranges-valid l p q r = valid-each (moduli a b) x (l ∙ sym (length-moduli a b)) (λ i k. go i (omega (arith, length-moduli a b)) (dec_lt i a) (dec_lt i (a + b)))
     where
       go : (i : ℕ) → i < 12 → Dec (i < a) → Dec (i < a + b) → get_or x i 0 < radix (get_or (moduli a b) i one)
@@ -67,17 +67,17 @@ module _ (a b : ℕ) (h : a + b ≤ 12) (x : List ℕ) where
       go i k (no m) (yes n) = subst (λ (c : Modulus). get_or x i 0 < radix c) (sym (moduli-four a b i k (omega arith) (omega arith))) (q i (omega arith) n)
       go i k (no m) (no n) = subst (λ (c : Modulus). get_or x i 0 < radix c) (sym (moduli-one a b i (omega arith) (omega arith))) (r i (omega arith) k)
 
-  valid-two : Valid (moduli a b) x → AllBelow x 0 a 2
+  pub valid-two : Valid (moduli a b) x → AllBelow x 0 a 2
   valid-two v i l m =
       let n = length-moduli a b in
       subst (λ (c : Modulus). get_or x i 0 < radix c) (moduli-two a b i (omega arith) m) (valid-at (moduli a b) x i v (omega arith))
 
-  valid-four : Valid (moduli a b) x → AllBelow x a (a + b) 4
+  pub valid-four : Valid (moduli a b) x → AllBelow x a (a + b) 4
   valid-four v i l m =
       let n = length-moduli a b in
       subst (λ (c : Modulus). get_or x i 0 < radix c) (moduli-four a b i (omega arith) l (omega arith)) (valid-at (moduli a b) x i v (omega arith))
 
-  valid-one : Valid (moduli a b) x → AllBelow x (a + b) 12 1
+  pub valid-one : Valid (moduli a b) x → AllBelow x (a + b) 12 1
   valid-one v i l m =
       let n = length-moduli a b in
       subst (λ (c : Modulus). get_or x i 0 < radix c) (moduli-one a b i (omega arith) (omega arith)) (valid-at (moduli a b) x i v (omega arith))

@@ -168,7 +168,7 @@ low-digits (suc n) (suc a) b s x =
     odd One y = omega arith
     odd Three y = omega arith
 
-based-at : (a b : ℕ) (s : Sign) (x : List ℕ) (k u : ℕ) → Based a b (kind_of s) (times (moduli a b) (factor_of s) x) k → u ≡ number (moduli a 0) x → a ≤ 12
+pub based-at : (a b : ℕ) (s : Sign) (x : List ℕ) (k u : ℕ) → Based a b (kind_of s) (times (moduli a b) (factor_of s) x) k → u ≡ number (moduli a 0) x → a ≤ 12
     → (k + u < length (numbers (kind_of s) (moduli a b))) × (element (moduli a b) (get_or (numbers (kind_of s) (moduli a b)) (k + u) 0) ≡ times (moduli a b) (factor_of s) x)
 unfolding moduli
 based-at a b s x k u w e l =

@@ -2,7 +2,7 @@
 use mathlib.Core.Path.{◌≡◌, refl, sym, ap, ap₂, subst, ◌∙◌}
 use mathlib.Core.Bool.{Bool, true, false, ◌&&◌}
 use mathlib.Core.List.{List, [], ◌∷◌, ◌++◌}
-use Prim.Native.Nat.{ℕ, zero, suc, ◌+◌, ◌-◌, ◌*◌, ◌%◌, ◌^◌, ◌<◌, ◌≤◌}
+use Prim.Native.Nat.{ℕ, zero, suc, ◌+◌, ◌-◌, ◌*◌, ◌/◌, ◌%◌, ◌^◌, ◌<◌, ◌≤◌}
 use native.Mathlib.Decide.{dec_lt, dec_le}
 use native.Mathlib.Omega.{arith}
 use borrow.Author.Tests.{le-leb, lt-leb}
@@ -203,9 +203,17 @@ singles-only a b n e f z p q v s x none l o es g =
     nothing [] h = refl
     nothing (y ∷ t) h = absurd (omega arith)
 
+-- the test of the room for 2^t weights, with a division
+pub half-leb : (a b t : ℕ) → a ≤ t → leb b ((t - a) / 2) ≡ leb (a + 2 * b) t
+half-leb a b t h = go (dec_lt ((t - a) / 2) b)
+  where
+    go : Dec ((t - a) / 2 < b) → leb b ((t - a) / 2) ≡ leb (a + 2 * b) t
+    go (yes l) = lt-leb b ((t - a) / 2) l ∙ sym (lt-leb (a + 2 * b) t (omega arith))
+    go (no l) = le-leb b ((t - a) / 2) (omega arith) ∙ sym (le-leb (a + 2 * b) t (omega arith))
+
 -- ---- what is answered, with room and without
 -- the test of the room, by what is answered either way
-abbrev chosen : ℕ → ℕ → List ℕ → Bool → List ℕ
+abbrev pub chosen : ℕ → ℕ → List ℕ → Bool → List ℕ
 chosen a b v t = elim t as (λ _. List ℕ) [ true ↦ weigh_on (moduli a b) (weight_order (moduli a b)) v | false ↦ zeros (moduli a b) ]
 
 pub with-room : (n a b : ℕ) (v : List ℕ) → Holds a b n → weighted_for n a b v ≡ weigh_on (moduli a b) (weight_order (moduli a b)) v
@@ -224,12 +232,19 @@ without-room n a b v h = ap (chosen a b v) (go (dec_le (2 ^ (a + 2 * b)) n) (dec
     go (yes e) (no m) = ap₂ ◌&&◌ (le-leb (2 ^ (a + 2 * b)) n e) (lt-leb n room (omega arith))
     go (yes e) (yes m) = absurd (h (holds-room a b n e m))
 
--- The three lengths in use: 2^t weights have room for the codes up to t, and for no others.
+-- Room by t: for the codes up to t, and for no others.
 module _ (a b : ℕ) (v : List ℕ) where
-  abbrev up-to : ℕ → List ℕ
+  abbrev pub up-to : ℕ → List ℕ
   up-to t = chosen a b v (leb (a + 2 * b) t)
 
-  at-length : (t : ℕ) → t ≤ widest → weighted_for (2 ^ t) a b v ≡ up-to t
+  pub with-room-up-to : (t : ℕ) → a + 2 * b ≤ t → up-to t ≡ weigh_on (moduli a b) (weight_order (moduli a b)) v
+  with-room-up-to t h = ap (chosen a b v) (le-leb (a + 2 * b) t h)
+
+  pub without-room-up-to : (t : ℕ) → t < a + 2 * b → up-to t ≡ zeros (moduli a b)
+  without-room-up-to t h = ap (chosen a b v) (lt-leb (a + 2 * b) t h)
+
+  -- 2^t weights have that room, 64, 1,024 and 4,096 of them among these, the lengths in use
+  pub at-length : (t : ℕ) → t ≤ widest → weighted_for (2 ^ t) a b v ≡ up-to t
   at-length t h = go (dec_le (a + 2 * b) t)
     where
       go : Dec (a + 2 * b ≤ t) → weighted_for (2 ^ t) a b v ≡ up-to t
