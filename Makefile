@@ -129,6 +129,7 @@ check: check-c check-rust
 # calls_test runs with the sanitizers and under valgrind; one of the two may be missing, and is then named.
 check-c: $(OUT)/example $(OUT)/calls_test $(OUT)/table_test $(OUT)/long_test $(OUT)/stack_test
 	$(call need,$(CXX),check)
+	$(call need,nm,check)
 	$(CC) $(WARN) -fsyntax-only include/z2z4.h
 	$(CC) $(WARN) -std=c11 -fsyntax-only include/z2z4.h
 	$(CXX) -pedantic -Wall -Wextra -Werror -fsyntax-only -x c++ include/z2z4.h

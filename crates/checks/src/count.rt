@@ -27,9 +27,8 @@ pub fn counted(record: Record, place: u32) -> Record
     }
 }
 
-// What a correction or a commit answers: the place that was changed, and the record with it counted. Inlined: handed over to
-// a function of its own, the Result and the record would be written to memory and read again, which a short word feels.
-#[inline(always)]
+// What a call that corrects answers: the place that was changed, and the record with it counted. `coder::correct` and
+// `coder::commit` say it each in place, where the Result need not go through memory; this is for calls to come.
 pub fn change(record: Record, work: Result<u32, Refusal>) -> Corrected
     ensures any { result ≡ told_counted counted_for «record» work }
     ensures usable { IfOk work (λ p. Usable «record» × («record».words ≢ full_count)) → result ≡ told_counted counted «record» work }

@@ -110,8 +110,18 @@ pub fn correct(record: Record, word: &[u8], out: &mut [u8]) -> Corrected
     ensures answer { result ≡ correct_answer «record» word.now out.old }
     ensures bytes { out.new ≡ correct_output «record» word.now out.old }
 {
-    let changed = work::corrected(record, word, out);
-    count::change(record, changed)
+    match work::corrected(record, word, out) {
+        Ok(p) => Corrected {
+            refusal: 0,
+            place: p,
+            record: count::counted(record, p),
+        },
+        Err(x) => Corrected {
+            refusal: x.number(),
+            place: x.place(),
+            record,
+        },
+    }
 }
 
 // The place that correction would change, 0 for a codeword; nothing is counted. Refused with 21, 22, 10, 2, 4
@@ -128,8 +138,18 @@ pub fn commit(record: Record, place: u32, word: &mut [u8]) -> Corrected
     ensures answer { result ≡ commit_answer «record» place word.old }
     ensures bytes { word.new ≡ commit_output «record» place word.old }
 {
-    let changed = work::committed(record, place, word);
-    count::change(record, changed)
+    match work::committed(record, place, word) {
+        Ok(place) => Corrected {
+            refusal: 0,
+            place,
+            record: count::counted(record, place),
+        },
+        Err(x) => Corrected {
+            refusal: x.number(),
+            place: x.place(),
+            record,
+        },
+    }
 }
 
 // Two words combined by the group law, at the front of `out`. Refused with 21, 22, 10, 2, 3 and 4.

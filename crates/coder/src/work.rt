@@ -3,7 +3,7 @@ ghost use Rattle.std.specs.Prelude.{◌≡◌, ◌∷◌, [], IfOk};
 ghost use Rattle.layout_theory.specs.Choice.{pick};
 ghost use Rattle.layout_theory.specs.Calls.{shape_for};
 ghost use Rattle.shortened_theory.specs.Code.{new_place, is_left_out};
-ghost use Rattle.shortened_theory.specs.Calls.{shortened_syndrome_for, shortened_fault_for};
+ghost use Rattle.shortened_theory.specs.Calls.{shortened_syndrome_for, shortened_fault_for, fault_at_for};
 ghost use Rattle.coder_theory.specs.State.{fresh, places_in, counted};
 ghost use Rattle.coder_theory.specs.Reasons.{first_reason, not_admitted, not_allowed};
 ghost use Rattle.coder_theory.specs.Calls.{answer_of, write_reasons, in_force, element_answer, syndrome_answer, encode_answer, encode_output, correct_answer, correct_output};
@@ -113,7 +113,14 @@ fn at_fault(record: Record, word: &[u8], room: usize) -> Result<u32, Refusal>
     ensures place { IfOk result (λ q. q ≡ shortened_fault_for «record».t «record».r «record».s word.now) }
 {
     let e = received(record, word, room)?;
-    Ok(places::fault(fit::code(record), e, word))
+    Ok(fault(record, e, word))
+}
+
+// The place at fault in a word that has the syndrome e.
+fn fault(record: Record, e: Element, word: &[u8]) -> u32
+    ensures { result ≡ fault_at_for «record».t «record».r «record».s e word.now }
+{
+    places::fault(fit::code(record), e, word)
 }
 
 // Corrects a word into the front of an output: the place that was flipped, or 0.

@@ -126,8 +126,8 @@ pub fn flip(word: &[u8], place: u32, out: &mut [u8])
     flip_in_place(place, &mut out[..word.len()]);
 }
 
-// Copies bytes. A loop: the compiler does not know of two lent slices that they lie apart, and for `copy_from_slice` it would
-// ask the host for `memmove`, where the library for C needs `memcpy` and `memset` alone.
+// Copies bytes. A loop: the compiler does not know of two slices that come as parameters that they lie apart, and for
+// `copy_from_slice` it would ask the host for `memmove`, where the library for C needs `memcpy` and `memset` alone.
 fn copy(from: &[u8], to: &mut [u8])
     requires { length to.old ≡ length from.now }
     ensures { to.new ≡ from.now }

@@ -1,10 +1,13 @@
 -- `coder::correct` meets its contract: what is counted was accepted. Assumes nothing.
-use mathlib.Core.Path.{◌∙◌}
+use mathlib.Core.Path.{sym, ap}
+use Rattle.coder_theory.specs.declared.Corrected.{Corrected}
 use Rattle.coder_theory.proofs.Corrections.{correct-counts}
-use Rattle.checks.proofs.Accepts.{if-accepted}
 use Rattle.coder.proofs.correct.Goals as goal
 
-pub returns-clause-answer : goal.returns-clause-answer
-returns-clause-answer c =
-    let a = c.corrected-changed.ensures.answer in
-    c.change.ensures.usable (if-accepted c.args.«record» _ _ a (correct-counts _ _ _)) ∙ a
+pub returns-in-Ok-clause-answer : goal.returns-in-Ok-clause-answer
+returns-in-Ok-clause-answer c =
+    let a = rw c.in-Ok.is at c.corrected.ensures.answer in
+    rw (c.counted.ensures.usable (correct-counts _ _ _ (sym (ap (λ (x : Corrected). x.refusal) a)))) a
+
+pub returns-in-Err-clause-answer : goal.returns-in-Err-clause-answer
+returns-in-Err-clause-answer c = rw (c.number.ensures, c.place.ensures) (rw c.in-Err.is at c.corrected.ensures.answer)

@@ -10,4 +10,4 @@ pub returns-clause-place : goal.returns-clause-place
 returns-clause-place c =
     let w = c.args.word.now in
     let r = c.args.«record» in
-    (rw c.code.ensures at c.fault.ensures) ∙ ap (λ (e : List ℕ). fault_at_for r.t r.r r.s e w) c.in_ok-e.ensures.sum ∙ fault-from r.t r.r r.s w
+    c.fault.ensures ∙ ap (λ (e : List ℕ). fault_at_for r.t r.r r.s e w) c.in_ok-e.ensures.sum ∙ fault-from r.t r.r r.s w
